@@ -1,0 +1,5 @@
+pub mod Form
+pub mod Meaning
+pub mod Printed
+pub mod Outside
+pub mod Upper
