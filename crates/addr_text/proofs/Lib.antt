@@ -1,0 +1,3 @@
+pub mod DecimalLemmas
+pub mod Ipv4Lemmas
+pub mod NumberLemmas
