@@ -8,7 +8,7 @@ use Rattle.fw_rule.specs.declared.rule.Chain.{Chain}
 use Rattle.fw_rule.specs.declared.rule.Dump.{Dump}
 use Rattle.fw_rule.specs.Places.{Path, Meaning}
 use Rattle.fw_rule.specs.Matching.{matches}
-use Rattle.fw_rule.specs.Walk.{Frame, State, At, Ended, back, after}
+use Rattle.fw_rule.specs.Steps.{Frame, State, At, Ended, back, after}
 
 -- an outcome is a verdict, or None for the end of the chain
 abbrev pub Outcome : Type 0
