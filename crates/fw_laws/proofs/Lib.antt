@@ -1,1 +1,5 @@
 pub mod Alike
+pub mod Deciding
+pub mod Moves
+pub mod Settle
+pub mod Twice

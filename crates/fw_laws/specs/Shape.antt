@@ -6,7 +6,7 @@ use Rattle.fw_rule.specs.declared.rule.Action.{Action}
 use Rattle.fw_rule.specs.declared.rule.Rule.{Rule}
 use Rattle.fw_rule.specs.declared.rule.Chain.{Chain}
 use Rattle.fw_rule.specs.declared.rule.Dump.{Dump}
-use Rattle.fw_rule.specs.Walk.{Path, Meaning, State, matches, after, Walks, May, Must}
+use Rattle.fw_rule.specs.Walk.{Path, Meaning, State, matches, after, Walks, May, Must, Settled}
 use Rattle.std.specs.Prelude.{Bool}
 
 -- a chain's policy and the actions of its rules
@@ -47,3 +47,7 @@ module _ {P Packet : Type 0} (holds : P → Packet → Bool) where
   -- where the rules match alike under every meaning, the same must be accepted
   abbrev pub SameMust : Dump P → Dump P → Packet → Type 0
   SameMust one other p = ((m : Meaning) → MatchAlike one other p m) → (chain : ℕ) → Must holds one chain p ↔ Must holds other chain p
+
+-- the same chains are settled
+abbrev pub SameSettled : {P : Type 0} → Dump P → Dump P → Type 0
+SameSettled one other = (chain : ℕ) → Settled one chain ↔ Settled other chain

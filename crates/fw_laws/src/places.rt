@@ -1,0 +1,9 @@
+ghost use Rattle.fw_laws.specs.Places.{NoPlaceTwice};
+
+use fw_rule::Dump;
+use match_expr::Primitive;
+
+/// No walk comes to a place twice, whether the dump is settled or not.
+pub fn no_place_twice<P: Primitive>(dump: &Dump<P>, p: &P::Packet)
+    ensures { NoPlaceTwice P.meaning dump.now p.now }
+{}
