@@ -1,5 +1,5 @@
 -- The laws of IPv4 texts.
-use Rattle.std.proofs.Common.{◌≡◌, ◌∙◌, ◌<◌, ◌^◌, ◌++◌, ℕ, List, [], ◌∷◌, All, arith, sym, ap, subst, refl, length, slice_index, zero, suc, lit<, inl, inr, decimal, append_assoc, length-append}
+use Rattle.std.proofs.Common.{◌≡◌, ◌∙◌, ◌<◌, ◌^◌, ◌++◌, ℕ, List, [], ◌∷◌, All, arith, sym, ap, subst, refl, length, slice_index, zero, suc, lit<, lit≤, inl, inr, decimal, append_assoc, length-append, ◌≤◌}
 use Rattle.std.specs.Char.{digit_value}
 use Rattle.std.specs.Str.Parse.{AllDigits}
 use Rattle.std.specs.Net.Text.{ipv4_text, dotted_text}
@@ -48,26 +48,31 @@ octet_fits {text} {octets} s k = subst (λ (o : List ℕ). slice_index o k < 256
 dotted : {text octets : List ℕ} → IsDotted text octets → text ≡ ipv4_text octets
 dotted s = s.spelled ∙ ap ipv4_text (sym s.value)
 
--- no dot is a digit
-dot_in_digits : (a b : List ℕ) → AllDigits 10 (a ++ (46 ∷ b)) → ⊥
-dot_in_digits [] b p = let wrong : digit_value 46 < 10 = p.0 in absurd (omega arith)
-dot_in_digits (x ∷ a) b p = dot_in_digits a b p.1
+-- no dot or colon is a decimal digit
+pub mark_in_digits : (mark : ℕ) (a b : List ℕ) → 10 ≤ digit_value mark → AllDigits 10 (a ++ (mark ∷ b)) → ⊥
+mark_in_digits mark [] b high p = let wrong = p.0 in absurd (omega arith)
+mark_in_digits mark (x ∷ a) b high p = mark_in_digits mark a b high p.1
 
 dotted_text_split : (a b c d : ℕ) → dotted_text a b c d ≡ decimal a ++ (46 ∷ (decimal b ++ (46 ∷ (decimal c ++ (46 ∷ decimal d)))))
 dotted_text_split a b c d = simp append_assoc
 
+pub dotted_plain : (text octets : List ℕ) → IsDotted text octets → All IsAddressByte text
+dotted_plain text octets s =
+    let all = All-ipv4_text octets (octet_fits s) in
+    let each : All IsAddressByte (ipv4_text octets) = λ k d h. address_byte _ (all k d h) in
+    subst (All IsAddressByte) (sym (dotted s)) each
+
 pub ipv4_plain : (text : List ℕ) (value : ℕ) → IsIpv4 text value → IsPlain text
 ipv4_plain text value p =
     let s = p.spelled in
-    let all = All-ipv4_text p.octets (octet_fits s) in
-    let each : All IsAddressByte (ipv4_text p.octets) = λ k d h. address_byte _ (all k d h) in
-    let split : text ≡ decimal s.a ++ (46 ∷ (decimal s.b ++ (46 ∷ (decimal s.c ++ (46 ∷ decimal s.d))))) = s.spelled ∙ dotted_text_split s.a s.b s.c s.d in
+    let rest = decimal s.b ++ (46 ∷ (decimal s.c ++ (46 ∷ decimal s.d))) in
+    let split : text ≡ decimal s.a ++ (46 ∷ rest) = s.spelled ∙ dotted_text_split s.a s.b s.c s.d in
     record {
-      some = omega (arith, ap length split, length-append (decimal s.a) (46 ∷ (decimal s.b ++ (46 ∷ (decimal s.c ++ (46 ∷ decimal s.d))))));
-      each = subst (All IsAddressByte) (sym (dotted s)) each;
+      some = omega (arith, ap length split, length-append (decimal s.a) (46 ∷ rest));
+      each = dotted_plain text p.octets s;
     }
 
 pub ipv4_not_number : (text : List ℕ) (value : ℕ) → AllDigits 10 text → IsIpv4 text value → ⊥
 ipv4_not_number text value digits p =
     let s = p.spelled in
-    dot_in_digits (decimal s.a) _ (subst (AllDigits 10) (s.spelled ∙ dotted_text_split s.a s.b s.c s.d) digits)
+    mark_in_digits 46 (decimal s.a) _ (lit≤ tt) (subst (AllDigits 10) (s.spelled ∙ dotted_text_split s.a s.b s.c s.d) digits)

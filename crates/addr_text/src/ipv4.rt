@@ -1,4 +1,4 @@
-ghost use Rattle.std.specs.Prelude.{◌≡◌, ◌<◌, ◌^◌, ◌++◌, ◌∷◌, ℕ, List, OnOk, OnErr, decimal, take, vec_len};
+ghost use Rattle.std.specs.Prelude.{◌≡◌, ◌<◌, ◌^◌, ◌++◌, ◌∷◌, ℕ, List, OnOk, OnErr, decimal, take, length};
 ghost use Rattle.std.specs.Net.Text.{ipv4_text, dotted_text};
 ghost use Rattle.addr_text.specs.Digits.{digits_of};
 ghost use Rattle.addr_text.specs.Grammar.{IsIpv4};
@@ -47,7 +47,7 @@ impl Family<32> for V4 {
 // Appends the address. Where memory is wanting, a part may stand behind what `out` had.
 fn append_address(value: u32, out: &mut Vec<u8>) -> Result<(), AllocError>
     ensures ok { OnOk result (out.new.items ≡ out.old.items ++ ipv4_text (digits_of 256 4 value)) }
-    ensures err { OnErr result (take (vec_len out.old) out.new.items ≡ out.old.items) }
+    ensures err { OnErr result (take (length out.old.items) out.new.items ≡ out.old.items) }
 {
     append_decimal((value >> 24) as u8, out)?;
     append_part((value >> 16 & 255) as u8, out)?;
