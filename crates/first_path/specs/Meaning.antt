@@ -10,7 +10,8 @@ use Rattle.fw_rule.specs.declared.rule.Action.{Action}
 use Rattle.fw_rule.specs.declared.rule.Lit.{Lit}
 use Rattle.fw_rule.specs.declared.rule.Rule.{Rule}
 use Rattle.fw_rule.specs.declared.rule.Dump.{Dump}
-use Rattle.fw_rule.specs.Walk.{Meaning, Walks}
+use Rattle.fw_rule.specs.Places.{Meaning}
+use Rattle.fw_rule.specs.Walk.{Walks}
 use Rattle.first_path.specs.Form.{Form, IsForm, Line, Net, Text, parts_of}
 
 -- how many addresses have the same first `len` bits
