@@ -1,5 +1,5 @@
 -- When a rule matches, and what of it is known.
-use Rattle.std.specs.Prelude.{ℕ, ◌+◌, Bool, true, false, not, ◌&&◌, if◌then◌else◌, List, [], ◌∷◌, Option, None, Some, Contains, ◌≡◌}
+use Rattle.std.specs.Prelude.{ℕ, ◌+◌, Bool, true, false, not, ◌&&◌, if◌then◌else◌, List, [], ◌∷◌, Option, None, Some, Contains, IsTrue}
 use Rattle.std.specs.List.{list_any, filter_map}
 use Rattle.match_expr.specs.Meaning.{eval_of}
 use Rattle.match_expr.specs.declared.expr.Expr.{Expr}
@@ -53,4 +53,4 @@ module _ {P : Type 0} where
 
   -- each known literal of the rule holds
   abbrev pub EachKnownHolds : {Packet : Type 0} → (P → Packet → Bool) → Packet → Rule P → Type 0
-  EachKnownHolds holds p rule = (neg : Bool) (expr : Expr P) → Contains rule.lits (Lit.Known neg expr) → known_holds holds p neg expr ≡ true
+  EachKnownHolds holds p rule = (neg : Bool) (expr : Expr P) → Contains rule.lits (Lit.Known neg expr) → IsTrue (known_holds holds p neg expr)
