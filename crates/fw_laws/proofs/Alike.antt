@@ -20,16 +20,16 @@ module _ {P : Type 0} where
   rule_actions here there e n = sym (slice_get-map (λ (rule : Rule P). rule.action) here.rules n) ∙ ap (λ (s : Shape). slice_get s.actions n) e
       ∙ slice_get-map (λ (rule : Rule P). rule.action) there.rules n
 
-module _ {P Packet : Type 0} (holds : P → Packet → Bool) (one other : Dump P) (p : Packet) (m w : Meaning) where
+module _ {P Packet : Type 0} (holds : P → Packet → Bool) (one other : Dump P) (p p' : Packet) (m w : Meaning) where
   -- the rules of these numbers match alike at the path
   abbrev pub AlikeAt : ℕ → ℕ → Path → Type 0
-  AlikeAt c n path = (a b : Rule P) → rule_at one c n ≡ Some a → rule_at other c n ≡ Some b → matches holds p m path a ≡ matches holds p w path b
+  AlikeAt c n path = (a b : Rule P) → rule_at one c n ≡ Some a → rule_at other c n ≡ Some b → matches holds p m path a ≡ matches holds p' w path b
 
   module _ (c n : ℕ) (path : Path) (frames : List Frame) where
     by_rules : (here there : Chain P) → shape_of here ≡ shape_of there → (a b : Option (Rule P)) →
         option_map (λ (rule : Rule P). rule.action) a ≡ option_map (λ (rule : Rule P). rule.action) b →
-        ((x y : Rule P) → a ≡ Some x → b ≡ Some y → matches holds p m (path ++ record { chain = c; rule = n } ∷ []) x ≡ matches holds p w (path ++ record { chain = c; rule = n } ∷ []) y) →
-        step_at holds one p m c n path frames here a ≡ step_at holds other p w c n path frames there b
+        ((x y : Rule P) → a ≡ Some x → b ≡ Some y → matches holds p m (path ++ record { chain = c; rule = n } ∷ []) x ≡ matches holds p' w (path ++ record { chain = c; rule = n } ∷ []) y) →
+        step_at holds one p m c n path frames here a ≡ step_at holds other p' w c n path frames there b
     by_rules here there e None None q h = ap (λ (s : Shape). back s.policy frames) e
     by_rules here there e None (Some y) q h = cc
     by_rules here there e (Some x) None q h = cc
@@ -40,9 +40,9 @@ module _ {P Packet : Type 0} (holds : P → Packet → Bool) (one other : Dump P
 
     by_chains : (a b : Option (Chain P)) → option_map shape_of a ≡ option_map shape_of b →
         ((x y : Rule P) → option_and_then (λ (here : Chain P). slice_get here.rules n) a ≡ Some x → option_and_then (λ (here : Chain P). slice_get here.rules n) b ≡ Some y →
-        matches holds p m (path ++ record { chain = c; rule = n } ∷ []) x ≡ matches holds p w (path ++ record { chain = c; rule = n } ∷ []) y) →
+        matches holds p m (path ++ record { chain = c; rule = n } ∷ []) x ≡ matches holds p' w (path ++ record { chain = c; rule = n } ∷ []) y) →
         option_and_then (λ (here : Chain P). step_at holds one p m c n path frames here (slice_get here.rules n)) a
-        ≡ option_and_then (λ (here : Chain P). step_at holds other p w c n path frames here (slice_get here.rules n)) b
+        ≡ option_and_then (λ (here : Chain P). step_at holds other p' w c n path frames here (slice_get here.rules n)) b
     by_chains None None e h = refl
     by_chains None (Some y) e h = cc
     by_chains (Some x) None e h = cc
@@ -52,7 +52,7 @@ module _ {P Packet : Type 0} (holds : P → Packet → Bool) (one other : Dump P
 
   module _ (shape : SameShape one other) where
     step_alike : (c n : ℕ) (path : Path) (frames : List Frame) → AlikeAt c n (path ++ record { chain = c; rule = n } ∷ []) →
-        step holds one p m (At c n path frames) ≡ step holds other p w (At c n path frames)
+        step holds one p m (At c n path frames) ≡ step holds other p' w (At c n path frames)
     step_alike c n path frames h = by_chains c n path frames (slice_get one.chains c) (slice_get other.chains c) (chain_shapes one other shape c) h
 
     -- where the rules match alike that the walk from a state comes to before the step of this number
@@ -60,23 +60,23 @@ module _ {P Packet : Type 0} (holds : P → Packet → Bool) (one other : Dump P
     AlikeOnWay k s = (j c n : ℕ) (path : Path) (frames : List Frame) → j < k → after holds one p m j s ≡ Some (At c n path frames) →
         AlikeAt c n (path ++ record { chain = c; rule = n } ∷ [])
 
-    after_same : (k : ℕ) (o : Option State) → ((t : State) → o ≡ Some t → after holds one p m k t ≡ after holds other p w k t) →
-        option_and_then (after holds one p m k) o ≡ option_and_then (after holds other p w k) o
+    after_same : (k : ℕ) (o : Option State) → ((t : State) → o ≡ Some t → after holds one p m k t ≡ after holds other p' w k t) →
+        option_and_then (after holds one p m k) o ≡ option_and_then (after holds other p' w k) o
     after_same k None h = refl
     after_same k (Some t) h = h t refl
 
     -- the walks have the same states up to it
-    pub same_after : (k : ℕ) (s : State) → AlikeOnWay k s → after holds one p m k s ≡ after holds other p w k s
+    pub same_after : (k : ℕ) (s : State) → AlikeOnWay k s → after holds one p m k s ≡ after holds other p' w k s
     same_after zero s h = refl
     same_after (suc k) (Ended v) h = refl
     same_after (suc k) (At c n path frames) h =
         let e = step_alike c n path frames (h 0 c n path frames (omega arith) refl) in
         after_same k (step holds one p m (At c n path frames)) (λ t q. same_after k t (λ j c' n' path' frames' l r.
-        h (suc j) c' n' path' frames' (omega arith) (ap (option_and_then (after holds one p m j)) q ∙ r))) ∙ ap (option_and_then (after holds other p w k)) e
+        h (suc j) c' n' path' frames' (omega arith) (ap (option_and_then (after holds one p m j)) q ∙ r))) ∙ ap (option_and_then (after holds other p' w k)) e
 
 module _ {P Packet : Type 0} (holds : P → Packet → Bool) (one other : Dump P) (p : Packet) (shape : SameShape one other) where
   pub same_states : SameStates holds one other p
-  same_states m alike k s = same_after holds one other p m m shape k s (λ j c n path frames l q. alike c n (path ++ record { chain = c; rule = n } ∷ []))
+  same_states m alike k s = same_after holds one other p p m m shape k s (λ j c n path frames l q. alike c n (path ++ record { chain = c; rule = n } ∷ []))
 
   pub same_verdict : SameVerdict holds one other p
   same_verdict m alike chain v =

@@ -1,5 +1,10 @@
 pub mod Alike
+pub mod Asked
 pub mod Deciding
+pub mod Hiding
+pub mod Literals
 pub mod Moves
+pub mod SamePlace
 pub mod Settle
 pub mod Twice
+pub mod TwoPackets

@@ -1,3 +1,6 @@
+pub mod Hidden
+pub mod Known
+pub mod Packets
 pub mod Places
 pub mod Shape
 pub mod Verdicts

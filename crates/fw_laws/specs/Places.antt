@@ -10,7 +10,7 @@ use Rattle.fw_laws.specs.Shape.{rule_at}
 
 module _ {P Packet : Type 0} (holds : P → Packet → Bool) (dump : Dump P) (p : Packet) where
   -- after so many steps the walk of the asked chain stands before the rule of the place
-  pub record Meets (m : Meaning) (asked count : ℕ) (place : Place) : Type 0 where
+  pub record Visits (m : Meaning) (asked count : ℕ) (place : Place) : Type 0 where
     pub chain : ℕ
     pub next : ℕ
     pub calls : Path
@@ -21,15 +21,15 @@ module _ {P Packet : Type 0} (holds : P → Packet → Bool) (dump : Dump P) (p 
   -- the walk of the asked chain comes to the rule of the place, whose literal is unknown
   pub record Asks (m : Meaning) (asked : ℕ) (place : Place) : Type 0 where
     pub count : ℕ
-    pub meets : Meets m asked count place
+    pub visit : Visits m asked count place
     pub rule : Rule P
     pub text : List ℕ
-    pub at : rule_at dump meets.chain meets.next ≡ Some rule
+    pub at : rule_at dump visit.chain visit.next ≡ Some rule
     pub unknown : slice_get rule.lits place.lit ≡ Some (Lit.Unknown text)
 
   -- no walk comes to a place twice
   abbrev pub NoPlaceTwice : Type 0
-  NoPlaceTwice = (m : Meaning) (asked j k : ℕ) (place : Place) → j < k → Meets m asked j place → ¬ Meets m asked k place
+  NoPlaceTwice = (m : Meaning) (asked j k : ℕ) (place : Place) → j < k → Visits m asked j place → ¬ Visits m asked k place
 
   -- both meanings say the same of each place that the walk under the first of them asks for
   abbrev pub AgreeOnWay : Meaning → Meaning → ℕ → Type 0

@@ -1,0 +1,28 @@
+-- What hiding keeps.
+use Rattle.std.specs.Prelude.{ℕ, ◌≡◌, ◌↔◌, Bool, false}
+use Rattle.match_expr.specs.declared.expr.Expr.{Expr}
+use Rattle.fw_rule.specs.declared.rule.Verdict.{Verdict}
+use Rattle.fw_rule.specs.declared.rule.Dump.{Dump}
+use Rattle.fw_rule.specs.Walk.{Meaning, Walks, Settled, May, Must, hidden_by}
+
+module _ {P : Type 0} (dump : Dump P) where
+  -- where nothing is hidden the dump stays as it is
+  abbrev pub NothingHidden : Type 0
+  NothingHidden = (hides : Expr P → Bool) → ((expr : Expr P) → hides expr ≡ false) → hidden_by hides dump ≡ dump
+
+  -- whatever is hidden, the same chains are settled
+  abbrev pub HiddenSettled : Type 0
+  HiddenSettled = (hides : Expr P → Bool) (chain : ℕ) → Settled dump chain ↔ Settled (hidden_by hides dump) chain
+
+  module _ {Packet : Type 0} (holds : P → Packet → Bool) (chain : ℕ) (p : Packet) where
+    -- whatever is hidden, each verdict of a walk stays the verdict of some walk
+    abbrev pub VerdictsStay : Type 0
+    VerdictsStay = (hides : Expr P → Bool) (m : Meaning) (v : Verdict) → Walks holds dump p m chain v → (w : Meaning) × Walks holds (hidden_by hides dump) p w chain v
+
+    -- what may be accepted still may be, whatever is hidden
+    abbrev pub MayWidens : Type 0
+    MayWidens = (hides : Expr P → Bool) → May holds dump chain p → May holds (hidden_by hides dump) chain p
+
+    -- what must be accepted, whatever is hidden, must be accepted
+    abbrev pub MustNarrows : Type 0
+    MustNarrows = (hides : Expr P → Bool) → Must holds (hidden_by hides dump) chain p → Must holds dump chain p

@@ -1,0 +1,27 @@
+ghost use Rattle.fw_rule.specs.Walk.{Settled};
+ghost use Rattle.fw_laws.specs.Hidden.{NothingHidden, HiddenSettled, VerdictsStay, MayWidens, MustNarrows};
+
+use fw_rule::Dump;
+use match_expr::Primitive;
+
+/// Where nothing is hidden the dump stays as it is.
+pub fn nothing_hidden<P: Primitive>(dump: &Dump<P>)
+    ensures { NothingHidden dump.now }
+{}
+
+/// Whatever is hidden, the same chains are settled.
+pub fn hidden_is_settled<P: Primitive>(dump: &Dump<P>)
+    ensures { HiddenSettled dump.now }
+{}
+
+/// Whatever is hidden, each verdict of a walk stays the verdict of some walk, so what may be accepted still may be.
+pub fn hiding_widens_may<P: Primitive>(dump: &Dump<P>, chain: u32, p: &P::Packet)
+    ensures verdicts { VerdictsStay dump.now P.meaning chain p.now }
+    ensures may { MayWidens dump.now P.meaning chain p.now }
+{}
+
+/// In a settled dump what must be accepted, whatever is hidden, must be accepted.
+pub fn hiding_narrows_must<P: Primitive>(dump: &Dump<P>, chain: u32, p: &P::Packet)
+    requires { Settled dump.now chain }
+    ensures { MustNarrows dump.now P.meaning chain p.now }
+{}
