@@ -1,0 +1,33 @@
+-- The number and the line of a status.
+use Rattle.std.specs.Prelude.{ℕ, List, [], ◌∷◌, ◌++◌, codes, decimal, string_bytes}
+use Rattle.fffuu_run.specs.declared.status.Status.{Status}
+use Rattle.fffuu_run.specs.declared.status.Status.TheVariants as status
+use Rattle.fffuu_run.specs.declared.telling.Line.{Line}
+use Rattle.fffuu_run.specs.declared.telling.Line.TheVariants as line
+
+abbrev pub code_of : Status → ℕ
+code_of status.Ok = 0
+code_of status.Usage = 1
+code_of status.ReadFault = 2
+code_of status.WriteFault = 3
+code_of status.InputTooLong = 4
+code_of (status.Later n) = 13
+code_of status.Memory = 12
+
+-- a line that the program writes of itself
+abbrev pub told : List ℕ → List ℕ
+told text = codes "fffuu: " ++ text ++ 10 ∷ []
+
+abbrev pub line_of : Status → List ℕ
+line_of status.Ok = []
+line_of status.Usage = told (codes "usage: fffuu MODE [--chain NAME] [--family 4|6] [--side upper|lower] [ARGS]")
+line_of status.ReadFault = told (codes "read failed")
+line_of status.WriteFault = told (codes "write failed")
+line_of status.InputTooLong = told (codes "input is longer than 16777216 bytes")
+line_of (status.Later n) = told (codes "line " ++ decimal n ++ codes ": not built yet")
+line_of status.Memory = told (codes "out of memory")
+
+-- the bytes of a line of the code
+abbrev pub text_of : Line → List ℕ
+text_of (line.Fixed text) = text.now
+text_of (line.Built text) = string_bytes text

@@ -1,0 +1,75 @@
+-- How a run ends, by its status.
+use Rattle.std.specs.Prelude.{◌≡◌, ◌<◌, ◌≤◌, ◌+◌, ◌++◌, ◌⊎◌, [], ℕ, List, Bool, Option, length}
+use Rattle.std.specs.Io.KnownBytes.{Appends, Consumes, IsAtEnd}
+use Rattle.fw_io.specs.Causes.{Rose}
+use Rattle.fffuu_run.specs.Filters.{IsLater, IsUpper}
+use Rattle.fffuu_run.specs.Requests.{Spells}
+use Rattle.fffuu_run.specs.declared.status.Status.{Status}
+use Rattle.fffuu_run.specs.declared.status.Status.TheVariants as status
+
+-- the most bytes of input
+abbrev pub most : ℕ
+most = 16777216
+
+-- the source and the sink at one moment
+pub record Outside : Type 0 where
+  pub left : Option (List ℕ)
+  pub read_faults : ℕ
+  pub held : Option (List ℕ)
+  pub write_faults : ℕ
+
+-- the text is all that the source gave, up to its end
+pub record ReadsWhole (old new : Option (List ℕ)) (text : List ℕ) : Type 0 where
+  pub taken : Consumes old new text
+  pub end : IsAtEnd new
+  pub short : length text ≤ most
+
+-- a text that is one byte too long was taken
+pub record ReadsTooMuch (old new : Option (List ℕ)) (text : List ℕ) : Type 0 where
+  pub taken : Consumes old new text
+  pub long : length text ≡ most + 1
+
+-- the sink is as before
+pub record KeepsSink (old new : Outside) : Type 0 where
+  pub held : new.held ≡ old.held
+  pub faults : new.write_faults ≡ old.write_faults
+
+-- less than the whole text was appended
+pub record AppendsPart (old new : Option (List ℕ)) (text sent rest : List ℕ) : Type 0 where
+  pub sent_is : Appends old new sent
+  pub split : text ≡ sent ++ rest
+  pub proper : 0 < length rest
+
+-- a front of the line was written, all of it where no write failed
+pub record Tells (old new : Option (List ℕ)) (before now : ℕ) (line sent rest : List ℕ) : Type 0 where
+  pub sent_is : Appends old new sent
+  pub split : line ≡ sent ++ rest
+  pub whole : (Rose before now → ⊥) → rest ≡ []
+
+-- what a status says of a run whose words ask for this family
+abbrev pub Works : Bool → Outside → Outside → Status → Type 0
+Works six old new status.Ok = (text written : List ℕ) × ReadsWhole old.left new.left text
+    × IsUpper six text written × Appends old.held new.held written
+Works six old new status.Usage = ⊥
+Works six old new status.ReadFault = Rose old.read_faults new.read_faults × KeepsSink old new
+Works six old new status.InputTooLong = (text : List ℕ) × ReadsTooMuch old.left new.left text × KeepsSink old new
+Works six old new (status.Later line) = (text : List ℕ) × ReadsWhole old.left new.left text
+    × IsLater six text line × KeepsSink old new
+Works six old new status.WriteFault = (text written sent rest : List ℕ) × ReadsWhole old.left new.left text
+    × IsUpper six text written × Rose old.write_faults new.write_faults
+    × AppendsPart old.held new.held written sent rest
+Works six old new status.Memory = KeepsSink old new
+
+-- what a status says of a run
+abbrev pub Ends : List (List ℕ) → Outside → Outside → Status → Type 0
+Ends words old new status.Usage = ((six : Bool) → Spells words six → ⊥) × (new ≡ old)
+Ends words old new s = (six : Bool) × Spells words six × Works six old new s
+
+-- a text that is short enough and of the form is answered, if memory suffices
+abbrev pub EndsWell : Bool → List ℕ → Status → Type 0
+EndsWell six text s = length text ≤ most → ((line : ℕ) → IsLater six text line → ⊥)
+    → (s ≡ status.Ok) ⊎ (s ≡ status.Memory)
+
+-- the status, or want of memory in place of one whose line takes memory
+abbrev pub Settles : Status → Status → Type 0
+Settles first s = (s ≡ first) ⊎ ((line : ℕ) × (first ≡ status.Later line) × (s ≡ status.Memory))

@@ -1,0 +1,14 @@
+//! A run of the program from its words and its input to its output, its error line and its status.
+#![tactic(auto)]
+
+mod answering;
+mod reading;
+mod request;
+mod status;
+mod telling;
+mod top;
+mod working;
+mod writing;
+
+pub use status::Status;
+pub use top::{run, run_pure};
