@@ -1,0 +1,117 @@
+ghost use Rattle.std.specs.Prelude.{◌≡◌, AllPairs, map};
+ghost use Rattle.opt_table.specs.Options.{known_options};
+ghost use Rattle.opt_table.specs.Rows.{HasOtherTexts, spelling_of};
+
+use crate::{Row, Table};
+
+/// The options that a reader knows: six that need no module, and fourteen of modules.
+pub fn options() -> Table<20>
+    ensures rows { map spelling_of result.rows.now ≡ known_options }
+    // No two rows have both texts equal.
+    ensures distinct { AllPairs HasOtherTexts result.rows.now }
+{
+    Table::new(&ROWS)
+}
+
+static ROWS: [Row; 20] = [
+    Row {
+        module: b"",
+        option: b"-s",
+        arity: 1,
+    },
+    Row {
+        module: b"",
+        option: b"-d",
+        arity: 1,
+    },
+    Row {
+        module: b"",
+        option: b"-i",
+        arity: 1,
+    },
+    Row {
+        module: b"",
+        option: b"-o",
+        arity: 1,
+    },
+    Row {
+        module: b"",
+        option: b"-p",
+        arity: 1,
+    },
+    Row {
+        module: b"",
+        option: b"-f",
+        arity: 0,
+    },
+    Row {
+        module: b"tcp",
+        option: b"--sport",
+        arity: 1,
+    },
+    Row {
+        module: b"tcp",
+        option: b"--dport",
+        arity: 1,
+    },
+    Row {
+        module: b"udp",
+        option: b"--sport",
+        arity: 1,
+    },
+    Row {
+        module: b"udp",
+        option: b"--dport",
+        arity: 1,
+    },
+    Row {
+        module: b"tcp",
+        option: b"--tcp-flags",
+        arity: 2,
+    },
+    Row {
+        module: b"tcp",
+        option: b"--syn",
+        arity: 0,
+    },
+    Row {
+        module: b"multiport",
+        option: b"--sports",
+        arity: 1,
+    },
+    Row {
+        module: b"multiport",
+        option: b"--dports",
+        arity: 1,
+    },
+    Row {
+        module: b"multiport",
+        option: b"--ports",
+        arity: 1,
+    },
+    Row {
+        module: b"iprange",
+        option: b"--src-range",
+        arity: 1,
+    },
+    Row {
+        module: b"iprange",
+        option: b"--dst-range",
+        arity: 1,
+    },
+    Row {
+        module: b"state",
+        option: b"--state",
+        arity: 1,
+    },
+    Row {
+        module: b"conntrack",
+        option: b"--ctstate",
+        arity: 1,
+    },
+    Row {
+        module: b"comment",
+        option: b"--comment",
+        arity: 1,
+    },
+];
