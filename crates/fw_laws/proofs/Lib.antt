@@ -3,6 +3,7 @@ pub mod Asked
 pub mod Deciding
 pub mod Hiding
 pub mod Literals
+pub mod LoneChain
 pub mod Moves
 pub mod SamePlace
 pub mod Settle

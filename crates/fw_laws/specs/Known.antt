@@ -10,14 +10,14 @@ abbrev pub KnownAlone : {P : Type 0} → Dump P → ℕ → Type 0
 KnownAlone {P} dump asked = (chain : ℕ) (rule : Rule P) → Reaches dump asked chain → RuleOf dump chain rule → doubt_in rule.lits ≡ false
 
 module _ {P Packet : Type 0} (holds : P → Packet → Bool) (dump : Dump P) (asked : ℕ) (p : Packet) where
-  -- the walks under all meanings are one
+  -- under all meanings the walk is one: after any number of steps it has the same state
   abbrev pub HasOneWalk : Type 0
   HasOneWalk = (m w : Meaning) (k : ℕ) → after holds dump p m k (At asked 0 [] []) ≡ after holds dump p w k (At asked 0 [] [])
 
-  -- whatever the meaning, its walk accepts where the packet may be accepted
+  -- whatever the meaning, its walk accepts exactly where the packet may be accepted
   abbrev pub WalkIsMay : Type 0
   WalkIsMay = (m : Meaning) → Walks holds dump p m asked Accept ↔ May holds dump asked p
 
-  -- whatever the meaning, its walk accepts where the packet must be accepted
+  -- whatever the meaning, its walk accepts exactly where the packet must be accepted
   abbrev pub WalkIsMust : Type 0
   WalkIsMust = (m : Meaning) → Walks holds dump p m asked Accept ↔ Must holds dump asked p

@@ -18,7 +18,7 @@ module _ {P Packet : Type 0} (holds : P → Packet → Bool) (dump : Dump P) (p 
     pub stands : after holds dump p m count (At asked 0 [] []) ≡ Some (At chain next calls frames)
     pub steps : place.steps ≡ calls ++ record { chain = chain; rule = next } ∷ []
 
-  -- the walk of the asked chain comes to the rule of the place, whose literal is unknown
+  -- the walk of the asked chain comes to the rule of the place, and the literal there is unknown
   pub record Asks (m : Meaning) (asked : ℕ) (place : Place) : Type 0 where
     pub count : ℕ
     pub visit : Visits m asked count place

@@ -1,5 +1,5 @@
 -- Two dumps whose rules do the same and match alike.
-use Rattle.std.specs.Prelude.{ℕ, ◌≡◌, ◌↔◌, List, Option, Some, map, slice_get}
+use Rattle.std.specs.Prelude.{ℕ, ◌≡◌, ◌↔◌, Bool, List, Option, Some, map, slice_get}
 use Rattle.std.specs.Option.{option_and_then}
 use Rattle.fw_rule.specs.declared.rule.Verdict.{Verdict}
 use Rattle.fw_rule.specs.declared.rule.Action.{Action}
@@ -7,7 +7,6 @@ use Rattle.fw_rule.specs.declared.rule.Rule.{Rule}
 use Rattle.fw_rule.specs.declared.rule.Chain.{Chain}
 use Rattle.fw_rule.specs.declared.rule.Dump.{Dump}
 use Rattle.fw_rule.specs.Walk.{Path, Meaning, State, matches, after, Walks, May, Must, Settled}
-use Rattle.std.specs.Prelude.{Bool}
 
 -- a chain's policy and the actions of its rules
 pub record Shape : Type 0 where
@@ -22,7 +21,7 @@ module _ {P : Type 0} where
   abbrev pub SameShape : Dump P → Dump P → Type 0
   SameShape one other = map shape_of one.chains ≡ map shape_of other.chains
 
-  -- the rule of one number in the chain of the other, if there is one
+  -- the rule `n` of the chain, if there is one
   abbrev pub rule_at : Dump P → ℕ → ℕ → Option (Rule P)
   rule_at dump chain n = option_and_then (λ (here : Chain P). slice_get here.rules n) (slice_get dump.chains chain)
 
@@ -48,6 +47,6 @@ module _ {P Packet : Type 0} (holds : P → Packet → Bool) where
   abbrev pub SameMust : Dump P → Dump P → Packet → Type 0
   SameMust one other p = ((m : Meaning) → MatchAlike one other p m) → (chain : ℕ) → Must holds one chain p ↔ Must holds other chain p
 
--- the same chains are settled
+-- a chain is settled in both or in neither
 abbrev pub SameSettled : {P : Type 0} → Dump P → Dump P → Type 0
 SameSettled one other = (chain : ℕ) → Settled one chain ↔ Settled other chain

@@ -4,23 +4,23 @@ ghost use Rattle.fw_laws.specs.Hidden.{NothingHidden, HiddenSettled, VerdictsSta
 use fw_rule::Dump;
 use match_expr::Primitive;
 
-/// Where nothing is hidden the dump stays as it is.
+/// Where no expression is hidden the dump stays as it is.
 pub fn nothing_hidden<P: Primitive>(dump: &Dump<P>)
     ensures { NothingHidden dump.now }
 {}
 
-/// Whatever is hidden, the same chains are settled.
+/// Whatever is hidden, a chain is settled before and after or neither time.
 pub fn hidden_is_settled<P: Primitive>(dump: &Dump<P>)
     ensures { HiddenSettled dump.now }
 {}
 
-/// Whatever is hidden, each verdict of a walk stays the verdict of some walk, so what may be accepted still may be.
+/// Each verdict of a walk is, whatever is hidden, the verdict of some walk of the hidden dump. So what may be accepted may be accepted there.
 pub fn hiding_widens_may<P: Primitive>(dump: &Dump<P>, chain: u32, p: &P::Packet)
     ensures verdicts { VerdictsStay dump.now P.meaning chain p.now }
     ensures may { MayWidens dump.now P.meaning chain p.now }
 {}
 
-/// In a settled dump what must be accepted, whatever is hidden, must be accepted.
+/// In a settled dump what must be accepted after something is hidden must be accepted before.
 pub fn hiding_narrows_must<P: Primitive>(dump: &Dump<P>, chain: u32, p: &P::Packet)
     requires { Settled dump.now chain }
     ensures { MustNarrows dump.now P.meaning chain p.now }

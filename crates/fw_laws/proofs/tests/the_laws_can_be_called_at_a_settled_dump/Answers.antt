@@ -1,0 +1,8 @@
+use Rattle.fw_laws.proofs.LoneChain.{lone_settled}
+use Rattle.fw_laws.proofs.tests.the_laws_can_be_called_at_a_settled_dump.Goals as goal
+
+pub exactly_one_verdict-requires : goal.exactly_one_verdict-requires
+exactly_one_verdict-requires c = lone_settled c.in_ok-dump.dump c.in_ok-dump.ensures
+
+pub hiding_narrows_must-requires : goal.hiding_narrows_must-requires
+hiding_narrows_must-requires c = lone_settled c.in_ok-dump.dump c.in_ok-dump.ensures
