@@ -1,5 +1,5 @@
 -- The range of a prefix.
-use Rattle.std.proofs.Common.{List, [], ◌∷◌, ℕ, suc, ◌+◌, ◌-◌, ◌*◌, ◌/◌, ◌%◌, ◌^◌, ◌==◌, ◌<◌, ◌≤◌, ◌≡◌, ◌&&◌, ◌⊎◌, inl, inr, Bool, true, false, IsTrue, Option, Some, None, nat_le, nat_lt, refl, sym, ◌∙◌, ap, arith, min, max, bit_and, div-mul-le_self, mul-le-mul_right, add-one, suc-mul, div-lt_iff_lt-mul, mul-div_cancel}
+use Rattle.std.proofs.Common.{List, [], ◌∷◌, ℕ, suc, ◌+◌, ◌-◌, ◌*◌, ◌/◌, ◌%◌, ◌^◌, ◌==◌, ◌<◌, ◌≤◌, ◌≡◌, ◌&&◌, inl, inr, false, nat_le, sym, ◌∙◌, ap, arith, bit_and, div-mul-le_self, mul-le-mul_right, div-lt_iff_lt-mul}
 use Rattle.std.proofs.Math.Nat.{lt-div-mul-add, div-eq_of_lt-le}
 use Rattle.std.proofs.Math.Pow.{pow_mono, pow-lt}
 use Rattle.std.proofs.lemmas.Nat.{pow_pos, pow-add, and_mask, shr_split, leading_length, shl-shr}
@@ -9,7 +9,6 @@ use lib.Count.{count_leading_zeros}
 use Rattle.interval_set.specs.declared.set.Range.{Range}
 use Rattle.interval_set.specs.Numbers.{has, is_within, IsWidth}
 use Rattle.interval_set.specs.Prefix.{in_prefix, prefix_range, IsPrefix}
-use Rattle.interval_set.specs.Laws.{same_range}
 
 -- a number of the block has its quotient, and no other number has
 block_quotient : (v n s : ℕ) → 0 < s → v / s * s ≤ n → n ≤ v / s * s + (s - 1) → n / s ≡ v / s

@@ -1,4 +1,4 @@
-use Rattle.std.proofs.Common.{ap, ◌≡◌, ◌∙◌, arith, sym, Some}
+use Rattle.std.proofs.Common.{ap, ◌∙◌, sym, Some}
 use Rattle.interval_set.specs.Prefix.{prefix_range}
 use Rattle.interval_set.proofs.PrefixLaws.{span_fits, span_of_prefix, prefix_begins, differ}
 use Rattle.interval_set.proofs.prefix.prefix_len.Goals as goal

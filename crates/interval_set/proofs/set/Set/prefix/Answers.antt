@@ -1,6 +1,5 @@
-use Rattle.std.proofs.Common.{ℕ, ◌≡◌, ◌≤◌, ◌-◌, ◌^◌, arith}
+use Rattle.std.proofs.Common.{◌≤◌, ◌-◌, ◌^◌, arith}
 use Rattle.std.proofs.lemmas.Result.{IfOk-weaker}
-use Rattle.interval_set.specs.Prefix.{prefix_range}
 use Rattle.interval_set.proofs.PrefixLaws.{prefix_ordered, prefix_within, prefix_has}
 use Rattle.interval_set.proofs.set.Set.prefix.Goals as goal
 
