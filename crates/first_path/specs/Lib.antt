@@ -3,3 +3,4 @@ pub mod Meaning
 pub mod Printed
 pub mod Outside
 pub mod Upper
+pub mod Pieces

@@ -1,6 +1,7 @@
 -- What a text of the form means: a filter table with one chain.
-use Rattle.std.specs.Prelude.{◌≡◌, ◌↔◌, ◌+◌, ◌-◌, ◌*◌, ◌/◌, ◌^◌, ◌++◌, ◌∷◌, [], ℕ, Bool, true, false, List, Option, Some, None, codes}
+use Rattle.std.specs.Prelude.{◌≡◌, ◌↔◌, ◌+◌, ◌++◌, ◌∷◌, [], ℕ, Bool, true, false, List, Option, Some, None, codes}
 use Rattle.interval_set.specs.declared.set.Range.{Range}
+use Rattle.interval_set.specs.Prefix.{prefix_range}
 use Rattle.match_expr.specs.declared.expr.Expr.TheVariants.{Prim}
 use Rattle.primitives.specs.declared.prim.Packet.{Packet}
 use Rattle.primitives.specs.declared.prim.Prim_.{Prim_}
@@ -12,19 +13,9 @@ use Rattle.fw_rule.specs.declared.rule.Rule.{Rule}
 use Rattle.fw_rule.specs.declared.rule.Dump.{Dump}
 use Rattle.fw_rule.specs.Places.{Meaning}
 use Rattle.fw_rule.specs.Walk.{Walks}
-use Rattle.first_path.specs.Form.{Form, IsForm, Line, Net, Text, parts_of}
-
--- how many addresses have the same first `len` bits
-abbrev pub size_of : ℕ → ℕ → ℕ
-size_of W len = 2 ^ (W - len)
-
--- the least address with the same first `len` bits
-abbrev pub first_of : ℕ → ℕ → ℕ → ℕ
-first_of W value len = value / size_of W len * size_of W len
-
--- the addresses with the same first `len` bits
-abbrev pub prefix_set : ℕ → ℕ → ℕ → List Range
-prefix_set W value len = record { lo = first_of W value len; hi = first_of W value len + size_of W len - 1 } ∷ []
+use Rattle.first_path.specs.declared.nets.Net.{Net}
+use Rattle.first_path.specs.declared.lines.Line.{Line}
+use Rattle.first_path.specs.Form.{Form, IsForm, Text, parts_of}
 
 abbrev pub action_of : Bool → Action
 action_of true = Action.Accept
@@ -35,10 +26,10 @@ policy_of true = Verdict.Accept
 policy_of false = Verdict.Drop
 
 module _ (W : ℕ) where
-  -- the literal of an option that is there
+  -- the literal of an option that is there: the addresses that agree with the net's in its first bits
   abbrev pub literals_of : (List Range → Prim_ W) → Option Net → List (Lit (Prim_ W))
   literals_of prim None = []
-  literals_of prim (Some n) = Lit.Known false (Prim (prim (prefix_set W n.value n.len))) ∷ []
+  literals_of prim (Some n) = Lit.Known false (Prim (prim (prefix_range W n.value n.len ∷ []))) ∷ []
 
   abbrev pub rule_of : ℕ → Line → Rule (Prim_ W)
   rule_of number r = record {

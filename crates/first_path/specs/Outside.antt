@@ -11,11 +11,14 @@ module _ (Reads : Text → ℕ → Type 0) (W : ℕ) where
     pub form : Form
     pub whole : IsForm Reads W (take count parts ++ next ∷ more) form
 
-  -- the text isn't of the form; the lines before the line of this number begin a text of the form, and with that line they don't.
-  -- Where all lines are right and more are wanted, this is the number of lines plus one
-  pub record IsFirstOutside (text : Text) (number : ℕ) : Type 0 where
+  -- the parts aren't those of the form; those before this number begin a text of the form, and with the one of this number they don't
+  pub record IsFirstBad (parts : List Text) (number : ℕ) : Type 0 where
     pub before : ℕ
     pub number_is : number ≡ suc before
-    pub begins : Begins before (parts_of text)
-    pub outside : Begins (suc before) (parts_of text) → ⊥
-    pub no_form : (form : Form) → IsForm Reads W (parts_of text) form → ⊥
+    pub begins : Begins before parts
+    pub outside : Begins (suc before) parts → ⊥
+    pub no_form : (form : Form) → IsForm Reads W parts form → ⊥
+
+  -- the number of the first line outside the form; where all lines are right and more are wanted, the number of lines plus one
+  abbrev pub IsFirstOutside : Text → ℕ → Type 0
+  IsFirstOutside text number = IsFirstBad (parts_of text) number

@@ -2,7 +2,14 @@
 #![tactic(auto)]
 
 mod fault;
+mod lines;
+mod nets;
 mod path;
+mod pieces;
+mod printer;
+mod words;
 
 pub use fault::FormFault;
+pub use lines::Line;
+pub use nets::Net;
 pub use path::upper;
