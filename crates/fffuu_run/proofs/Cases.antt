@@ -1,23 +1,28 @@
 -- What follows from the end of a run.
-use Rattle.std.proofs.Common.{◌≡◌, ◌∙◌, ◌⊎◌, ◌≤◌, ◌++◌, ◌∷◌, [], ℕ, List, Bool, true, false, Option, Some, None, IfSome, refl, inl, inr, arith, ap, sym, subst, length, length-append, append-nil}
+use Rattle.std.proofs.Common.{◌≡◌, ◌∙◌, ◌⊎◌, ◌↔◌, ◌≤◌, ◌++◌, ◌∷◌, [], ℕ, List, Bool, true, false, Option, Some, None, IfSome, refl, inl, inr, arith, ap, sym, subst, length, length-append, append-nil}
 use Rattle.fw_io.specs.Causes.{Rose}
-use Rattle.fffuu_run.specs.Filters.{IsLater}
+use Rattle.fffuu_run.specs.Filters.{IsLater, IsUpper}
 use Rattle.fffuu_run.specs.Requests.{Spells, name_of}
-use Rattle.fffuu_run.specs.Runs.{Ends, EndsWell, Outside, ReadsTooMuch, ReadsWhole, Settles, most}
+use Rattle.fffuu_run.specs.Runs.{Ends, IsStatusOf, Outside, ReadsTooMuch, ReadsWhole, Settles, most}
 use Rattle.fffuu_run.specs.declared.status.Status.{Status}
 use Rattle.fffuu_run.specs.declared.status.Status.TheVariants as status
+use Rattle.fffuu_run.proofs.Lines.{later_once, upper_or_later}
 
 -- what was read to the end is what was left
-whole_text : (left new : Option (List ℕ)) (text : List ℕ) → ReadsWhole left new text → IfSome left (λ bytes. text ≡ bytes)
-whole_text None new text w = tt
-whole_text (Some bytes) None text w = absurd w.taken
-whole_text (Some bytes) (Some rest) text w = sym (w.taken ∙ ap (λ r. text ++ r) w.end ∙ append-nil text)
+whole_text : (left new : Option (List ℕ)) (bytes text : List ℕ) → left ≡ Some bytes → ReadsWhole left new text → text ≡ bytes
+whole_text None new bytes text is w = absurd (cc)
+whole_text (Some old) None bytes text is w = absurd w.taken
+whole_text (Some old) (Some rest) bytes text is w =
+    let same : old ≡ bytes = cc in
+    sym (w.taken ∙ ap (λ r. text ++ r) w.end ∙ append-nil text) ∙ same
 
 -- where too much was taken, more than the most was left
-long_text : (left new : Option (List ℕ)) (text : List ℕ) → ReadsTooMuch left new text → IfSome left (λ bytes. length bytes ≤ most → ⊥)
-long_text None new text w = tt
-long_text (Some bytes) None text w = absurd w.taken
-long_text (Some bytes) (Some rest) text w = λ short. omega (arith, ap length w.taken, length-append text rest, w.long)
+long_text : (left new : Option (List ℕ)) (bytes text : List ℕ) → left ≡ Some bytes → ReadsTooMuch left new text → length bytes ≤ most → ⊥
+long_text None new bytes text is w short = absurd (cc)
+long_text (Some old) None bytes text is w short = absurd w.taken
+long_text (Some old) (Some rest) bytes text is w short =
+    let same : old ≡ bytes = cc in
+    omega (arith, ap length (sym same ∙ w.taken), length-append text rest, w.long)
 
 no_name : (b : ℕ) → b ≡ 52 → b ≡ 54 → ⊥
 no_name b four six = omega arith
@@ -40,29 +45,74 @@ one_request words x y (inl p) (inr (q, is)) = absurd (cc)
 one_request words x y (inr (p, is)) (inl q) = absurd (cc)
 one_request words x y (inr (p, is)) (inr (q, same)) = cc
 
-ends_well : (left : Option (List ℕ)) (six : Bool) (s : Status) → (s ≡ status.Ok) ⊎ (s ≡ status.Memory) → IfSome left (λ text. EndsWell six text s)
-ends_well None six s e = tt
-ends_well (Some text) six s e = λ short fits. e
+stays : (first s : Status) → Settles first s → (s ≡ first) ⊎ (s ≡ status.Memory)
+stays first s (inl is) = inl is
+stays first s (inr (line, is, memory)) = inr memory
 
-too_long : (left new : Option (List ℕ)) (six : Bool) (s : Status) (text : List ℕ) → ReadsTooMuch left new text → IfSome left (λ text. EndsWell six text s)
-too_long None new six s text w = tt
-too_long (Some bytes) new six s text w = λ short fits. absurd (long_text (Some bytes) new text w short)
+if_some : {A : Type 0} (o : Option A) (P : A → Type 0) → ((x : A) → o ≡ Some x → P x) → IfSome o P
+if_some None P each = tt
+if_some (Some x) P each = each x refl
 
-not_of_form : (left new : Option (List ℕ)) (six : Bool) (s : Status) (text : List ℕ) (line : ℕ) → ReadsWhole left new text → IsLater six text line → IfSome left (λ text. EndsWell six text s)
-not_of_form None new six s text line w outside = tt
-not_of_form (Some bytes) new six s text line w outside = λ short fits. absurd (fits line (subst (λ (t : List ℕ). IsLater six t line) (whole_text (Some bytes) new text w) outside))
+decided : (words : List (List ℕ)) (old new : Outside) (first s : Status) → Ends words old new first → Settles first s
+    → (six : Bool) → Spells words six
+    → (Rose old.read_faults new.read_faults → ⊥) → (Rose old.write_faults new.write_faults → ⊥)
+    → (bytes : List ℕ) → old.left ≡ Some bytes → IsStatusOf six bytes s
+decided words old new status.Ok s (six', spelled, (text, out, whole, upper, held)) settled six spells read written bytes is =
+    let same : text ≡ bytes = whole_text old.left new.left bytes text is whole in
+    let family : six' ≡ six = one_request words six' six spelled spells in
+    record {
+      too_long = λ long. absurd (omega (arith, whole.short, ap length same));
+      later = λ short line later. absurd (upper_or_later six bytes out line (subst (λ (t : List ℕ). IsUpper six t out) same (subst (λ (b : Bool). IsUpper b text out) family upper)) later);
+      ok = λ short fits. stays status.Ok s settled;
+    }
+decided words old new status.Usage s (none, same) settled six spells read written bytes is = absurd (none six spells)
+decided words old new status.ReadFault s (six', spelled, (rose, kept)) settled six spells read written bytes is = absurd (read rose)
+decided words old new status.WriteFault s (six', spelled, (text, out, sent, rest, whole, upper, rose, part)) settled six spells read written bytes is = absurd (written rose)
+decided words old new status.InputTooLong s (six', spelled, (text, much, kept)) settled six spells read written bytes is = record {
+  too_long = λ long. stays status.InputTooLong s settled;
+  later = λ short line later. absurd (long_text old.left new.left bytes text is much short);
+  ok = λ short fits. absurd (long_text old.left new.left bytes text is much short);
+}
+decided words old new (status.Later found) s (six', spelled, (text, whole, outside, kept)) settled six spells read written bytes is =
+    let same : text ≡ bytes = whole_text old.left new.left bytes text is whole in
+    let family : six' ≡ six = one_request words six' six spelled spells in
+    let here : IsLater six bytes found = subst (λ (t : List ℕ). IsLater six t found) same (subst (λ (b : Bool). IsLater b text found) family outside) in
+    record {
+      too_long = λ long. absurd (omega (arith, whole.short, ap length same));
+      later = λ short line later. subst (λ (n : ℕ). (s ≡ status.Later n) ⊎ (s ≡ status.Memory)) (later_once six bytes found line here later) (stays (status.Later found) s settled);
+      ok = λ short fits. absurd (fits found here);
+    }
+decided words old new status.Memory s e settled six spells read written bytes is =
+    let memory : s ≡ status.Memory = elim (stays status.Memory s settled) [ inl same ↦ same | inr same ↦ same ] in
+    record { too_long = λ long. inr memory; later = λ short line later. inr memory; ok = λ short fits. inr memory }
 
 pub complete : (words : List (List ℕ)) (old new : Outside) (first s : Status) → Ends words old new first → Settles first s
     → (six : Bool) → Spells words six
     → (Rose old.read_faults new.read_faults → ⊥) → (Rose old.write_faults new.write_faults → ⊥)
-    → IfSome old.left (λ text. EndsWell six text s)
-complete words old new status.Ok s e settled six spells read written =
-    ends_well old.left six s (elim settled [ inl is ↦ inl is | inr (line, is, memory) ↦ inr memory ])
-complete words old new status.Usage s (none, same) settled six spells read written = absurd (none six spells)
-complete words old new status.ReadFault s (six', spelled, (rose, kept)) settled six spells read written = absurd (read rose)
-complete words old new status.WriteFault s (six', spelled, (text, upper, sent, rest, whole, is, rose, part)) settled six spells read written = absurd (written rose)
-complete words old new status.InputTooLong s (six', spelled, (text, much, kept)) settled six spells read written = too_long old.left new.left six s text much
-complete words old new (status.Later line) s (six', spelled, (text, whole, outside, kept)) settled six spells read written =
-    not_of_form old.left new.left six s text line whole (subst (λ (b : Bool). IsLater b text line) (one_request words six' six spelled spells) outside)
-complete words old new status.Memory s e settled six spells read written =
-    ends_well old.left six s (elim settled [ inl is ↦ inr is | inr (line, is, memory) ↦ inr memory ])
+    → IfSome old.left (λ text. IsStatusOf six text s)
+complete words old new first s e settled six spells read written =
+    if_some old.left (λ text. IsStatusOf six text s) (decided words old new first s e settled six spells read written)
+
+-- a status other than Usage has a request
+request_of : (words : List (List ℕ)) (old new : Outside) (first : Status) → Ends words old new first → (first ≡ status.Usage) ⊎ ((six : Bool) × Spells words six)
+request_of words old new status.Ok (six, spelled, e) = inr (six, spelled)
+request_of words old new status.Usage e = inl refl
+request_of words old new status.ReadFault (six, spelled, e) = inr (six, spelled)
+request_of words old new status.WriteFault (six, spelled, e) = inr (six, spelled)
+request_of words old new status.InputTooLong (six, spelled, e) = inr (six, spelled)
+request_of words old new (status.Later line) (six, spelled, e) = inr (six, spelled)
+request_of words old new status.Memory (six, spelled, e) = inr (six, spelled)
+
+usage_means : (words : List (List ℕ)) (old new : Outside) (first : Status) → Ends words old new first → first ≡ status.Usage → (six : Bool) → Spells words six → ⊥
+usage_means words old new first e is = (subst (Ends words old new) is e).0
+
+pub usage : (words : List (List ℕ)) (old new : Outside) (first s : Status) → Ends words old new first → Settles first s
+    → (s ≡ status.Usage) ↔ ((six : Bool) → Spells words six → ⊥)
+usage words old new first s e (inl is) = (
+  λ used. usage_means words old new first e (sym is ∙ used),
+  λ none. elim (request_of words old new first e) [ inl used ↦ is ∙ used | inr (six, spelled) ↦ absurd (none six spelled) ],
+)
+usage words old new first s e (inr (line, is, memory)) = (
+  λ used. absurd (cc),
+  λ none. elim (request_of words old new first e) [ inl used ↦ absurd (cc) | inr (six, spelled) ↦ absurd (none six spelled) ],
+)

@@ -10,3 +10,7 @@ name_of true = codes "6"
 abbrev pub Spells : List (List ℕ) → Bool → Type 0
 Spells words six = (words ≡ codes "upper" ∷ codes "--family" ∷ name_of six ∷ [])
     ⊎ ((words ≡ codes "upper" ∷ []) × (six ≡ false))
+
+-- the words spell one request at most
+abbrev pub SpellsOnce : List (List ℕ) → Type 0
+SpellsOnce words = (x y : Bool) → Spells words x → Spells words y → x ≡ y

@@ -65,10 +65,11 @@ abbrev pub Ends : List (List ℕ) → Outside → Outside → Status → Type 0
 Ends words old new status.Usage = ((six : Bool) → Spells words six → ⊥) × (new ≡ old)
 Ends words old new s = (six : Bool) × Spells words six × Works six old new s
 
--- a text that is short enough and of the form is answered, if memory suffices
-abbrev pub EndsWell : Bool → List ℕ → Status → Type 0
-EndsWell six text s = length text ≤ most → ((line : ℕ) → IsLater six text line → ⊥)
-    → (s ≡ status.Ok) ⊎ (s ≡ status.Memory)
+-- The status where words ask for this family, this text is all that the source has, and nothing fails.
+pub record IsStatusOf (six : Bool) (text : List ℕ) (s : Status) : Type 0 where
+  pub too_long : most < length text → (s ≡ status.InputTooLong) ⊎ (s ≡ status.Memory)
+  pub later : length text ≤ most → (line : ℕ) → IsLater six text line → (s ≡ status.Later line) ⊎ (s ≡ status.Memory)
+  pub ok : length text ≤ most → ((line : ℕ) → IsLater six text line → ⊥) → (s ≡ status.Ok) ⊎ (s ≡ status.Memory)
 
 -- the status, or want of memory in place of one whose line takes memory
 abbrev pub Settles : Status → Status → Type 0

@@ -2,6 +2,7 @@
 #![tactic(auto)]
 
 mod answering;
+mod laws;
 mod reading;
 mod request;
 mod status;
@@ -10,5 +11,9 @@ mod top;
 mod working;
 mod writing;
 
+pub use laws::one_request;
 pub use status::Status;
 pub use top::{run, run_pure};
+
+#[cfg(test)]
+mod tests;

@@ -1,9 +1,8 @@
-ghost use Rattle.std.specs.Prelude.{◌≡◌, ◌⊎◌, ◌≤◌, ℕ, List, Bool, IfSome, length, map, string_bytes};
+ghost use Rattle.std.specs.Prelude.{◌≡◌, ◌↔◌, ℕ, List, Bool, IfSome, map, string_bytes};
 ghost use Rattle.fw_io.specs.Causes.{Rose};
-ghost use Rattle.fffuu_run.specs.Filters.{IsLater};
 ghost use Rattle.fffuu_run.specs.Lines.{line_of};
 ghost use Rattle.fffuu_run.specs.Requests.{Spells};
-ghost use Rattle.fffuu_run.specs.Runs.{Ends, EndsWell, Outside, Tells, most};
+ghost use Rattle.fffuu_run.specs.Runs.{Ends, IsStatusOf, Outside, Tells};
 
 use crate::Status;
 use crate::request::spell;
@@ -31,7 +30,19 @@ fn answered<S: Source, O: Sink>(
     }
 }
 
-/// Reads all there is, writes the answer to it and nothing else, and tells of a refusal on `err`.
+/// Reads the words, then the source to its end, and writes the answer to `out`. A refusal is told in one line on `err`.
+///
+/// The words are those after the program's name: `upper`, `upper --family 4` or `upper --family 6`. The text is one
+/// chain of prefix rules of at most 16,777,216 bytes, and the answer is its upper filter.
+///
+/// The refusals in their order; each comes only where none before it does:
+/// - `Usage` exactly where the words spell no request. The source stays unread.
+/// - `ReadFault` only where the source's count of faults rose.
+/// - `InputTooLong` exactly where byte 16,777,217 came before the end. No more than that is taken.
+/// - `Later` exactly where that line is the first outside the form.
+/// - `WriteFault` only where the count of `out` rose. A front of the answer went out.
+///
+/// `Memory` may stand in place of each but `Usage`. After a refusal other than `WriteFault` nothing went out.
 pub fn run<S: Source, O: Sink, E: Sink>(
     alloc: Global,
     words: &Vec<String>,
@@ -48,21 +59,25 @@ pub fn run<S: Source, O: Sink, E: Sink>(
     ensures told { (sent rest : List ℕ) × Tells (E.held err.old) (E.held err.new) (E.faults err.old) (E.faults err.new)
         (line_of result) sent rest }
 
-    // Where the words are right, no count rises and the text is right, it ends well.
+    // Exactly where the words spell no request.
+    ensures usage { (result ≡ Status.Usage) ↔ ((six : Bool) → Spells (map string_bytes words.now.items) six → ⊥) }
+
+    // Where the words are right and no count rises, the text decides the status.
     ensures complete { (six : Bool) → Spells (map string_bytes words.now.items) six
         → (Rose (S.faults source.old) (S.faults source.new) → ⊥)
         → (Rose (O.faults out.old) (O.faults out.new) → ⊥)
-        → IfSome (S.left source.old) (λ text. EndsWell six text result) }
+        → IfSome (S.left source.old) (λ text. IsStatusOf six text result) }
 {
     let status = answered(alloc, words, source, out);
     report(alloc, status, err)
 }
 
-/// The same over bytes in memory, with sinks that take everything.
+/// The status of a run over bytes in memory, whose output and error line go nowhere. No read or write fails.
 pub fn run_pure(alloc: Global, words: &Vec<String>, bytes: Bytes) -> Status
     ensures no_read_fault { result ≡ Status.ReadFault → ⊥ }
     ensures no_write_fault { result ≡ Status.WriteFault → ⊥ }
-    ensures complete { (six : Bool) → Spells (map string_bytes words.now.items) six → EndsWell six bytes result }
+    ensures usage { (result ≡ Status.Usage) ↔ ((six : Bool) → Spells (map string_bytes words.now.items) six → ⊥) }
+    ensures complete { (six : Bool) → Spells (map string_bytes words.now.items) six → IsStatusOf six bytes result }
 {
     let mut source = PureSource::new(bytes);
     let mut out = PureSink::new();
