@@ -80,8 +80,8 @@ module _ (W : ℕ) (p : Packet) (m : Meaning) (path : Path) where
       → matches holds_of p m path (rule_of W k r) ≡ matches holds_of p m path (rule_of W l (again_line W r))
   rule_alike valid k l r s d =
       both_hold r.source r.destination
-      ∙ ap (λ (b : Bool). b && side W r.destination p.dst) (sym (same_side W r.source p.src s valid.0))
-      ∙ ap (λ (b : Bool). side W (again_option W r.source) p.src && b) (sym (same_side W r.destination p.dst d valid.1))
+      ∙ ap (λ (b : Bool). b && side W r.destination p.dst) (sym (same_side W r.source p.src s valid.src))
+      ∙ ap (λ (b : Bool). side W (again_option W r.source) p.src && b) (sym (same_side W r.destination p.dst d valid.dst))
       ∙ sym (both_hold (again_option W r.source) (again_option W r.destination))
 
   rules_alike : IsValid W p → (k : ℕ) (rs : List Line) → ArePrintable W rs → (n : ℕ) (a b : Rule (Prim_ W)) → slice_get (rules_from W k rs) n ≡ Some a
