@@ -14,6 +14,10 @@ use Rattle.fw_rule.specs.Steps.{Frame, State, At, Ended, back, after}
 abbrev pub Outcome : Type 0
 Outcome = Option Verdict
 
+-- the chain has no rule `next`
+abbrev pub IsPast : {P : Type 0} → Dump P → ℕ → ℕ → Type 0
+IsPast {P} dump chain next = (here : Chain P) × (slice_get dump.chains chain ≡ Some here) × (slice_get here.rules next ≡ None)
+
 module _ {P Packet : Type 0} (holds : P → Packet → Bool) (dump : Dump P) (p : Packet) (m : Meaning) where
   -- before the rule `next` of the chain, reached over the path, stands a rule of this action, and it matches
   abbrev pub MatchesAt : ℕ → ℕ → Path → Action → Type 0
@@ -21,15 +25,11 @@ module _ {P Packet : Type 0} (holds : P → Packet → Bool) (dump : Dump P) (p 
       (slice_get dump.chains chain ≡ Some here) × (slice_get here.rules next ≡ Some rule) ×
       (matches holds p m (path ++ record { chain = chain; rule = next } ∷ []) rule ≡ true) × (rule.action ≡ action)
 
-  -- the chain has no rule `next`
-  abbrev pub IsPast : ℕ → ℕ → Type 0
-  IsPast chain next = (here : Chain P) × (slice_get dump.chains chain ≡ Some here) × (slice_get here.rules next ≡ None)
-
   -- what a state gives: a rule's verdict, or without frames the end, which is past the last rule or at Back
   abbrev pub Gives : State → Outcome → Type 0
   Gives (At chain next path frames) (Some Accept) = MatchesAt chain next path Action.Accept
   Gives (At chain next path frames) (Some Drop) = MatchesAt chain next path Action.Drop
-  Gives (At chain next path []) None = IsPast chain next ⊎ MatchesAt chain next path Action.Back
+  Gives (At chain next path []) None = IsPast dump chain next ⊎ MatchesAt chain next path Action.Back
   Gives (At chain next path (f ∷ frames)) None = ⊥
   Gives (Ended v) o = ⊥
 

@@ -6,7 +6,7 @@ use match_expr::{List, Primitive};
 use std::alloc::{AllocError, Global};
 
 /// The place of a literal at the path that ends with its rule.
-pub fn place_at(alloc: Global, path: &[Step], lit: u32) -> Result<Place, AllocError>
+pub(crate) fn place_at(alloc: Global, path: &[Step], lit: u32) -> Result<Place, AllocError>
     ensures { IfOk result (λ place. place ≡ record { steps = path.now; lit = lit }) }
 {
     Ok(Place {
@@ -44,7 +44,7 @@ fn push_rule<P: Primitive>(
 }
 
 /// Puts the places of the unknown literals last that calls lead to from a chain, whether rules match or not.
-pub fn push_chain<P: Primitive>(
+pub(crate) fn push_chain<P: Primitive>(
     alloc: Global,
     dump: &Dump<P>,
     chain: u32,
