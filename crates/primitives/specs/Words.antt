@@ -56,18 +56,27 @@ flag_names =
 abbrev pub SpellsProto : List ℕ → ℕ → Type 0
 SpellsProto text number = (number_in proto_names text ≡ Some number) ⊎ ((number ≤ 255) × (text ≡ decimal number))
 
--- the parts are names of flags, and together they name these
-abbrev pub NameFlags : List (List ℕ) → ℕ → Type 0
-NameFlags [] flags = flags ≡ 0
-NameFlags (part ∷ parts) flags =
-    (first : ℕ) × (others : ℕ) × (number_in flag_names part ≡ Some first) × NameFlags parts others × (flags ≡ bit_or first others)
+-- the flag of that name
+unfoldable pub flag_of : List ℕ → Option ℕ
+flag_of text = number_in flag_names text
+
+-- the flags of both, where both are there
+abbrev pub flags_of_both : Option ℕ → Option ℕ → Option ℕ
+flags_of_both None b = None
+flags_of_both (Some a) None = None
+flags_of_both (Some a) (Some b) = Some (bit_or a b)
+
+-- all flags that the parts name, where each part is a flag's name
+abbrev pub flags_of : List (List ℕ) → Option ℕ
+flags_of [] = Some 0
+flags_of (part ∷ parts) = flags_of_both (flag_of part) (flags_of parts)
 
 -- the text is names of flags with commas between them
 pub record IsFlagList (text : List ℕ) (flags : ℕ) : Type 0 where
   pub parts : List (List ℕ)
   pub some : 1 ≤ length parts
   pub divides : text ≡ join_with_byte 44 parts
-  pub name : NameFlags parts flags
+  pub name : flags_of parts ≡ Some flags
 
 -- the text is ALL, NONE, or a list of flags
 abbrev pub SpellsFlags : List ℕ → ℕ → Type 0

@@ -1,5 +1,6 @@
-ghost use Rattle.std.specs.Prelude.{◌≡◌, ◌≤◌, ℕ, IfSome, IfNone, decimal, map};
-ghost use Rattle.primitives.specs.Words.{SpellsProto, flag_names, named, number_in, proto_names, state_names};
+ghost use Rattle.std.specs.Prelude.{◌≡◌, ◌≢◌, ◌==◌, ◌≤◌, ◌∷◌, ◌++◌, ℕ, All, IfSome, IfNone, decimal, map};
+ghost use Rattle.std.specs.List.{slice_split};
+ghost use Rattle.primitives.specs.Words.{IsFlagList, SpellsFlags, SpellsProto, flag_of, flags_of, named, number_in, proto_names, state_names};
 
 use addr_text::read_number;
 
@@ -129,7 +130,7 @@ fn proto_named(text: &[u8]) -> Option<u8>
 }
 
 fn flag_named(text: &[u8]) -> Option<u8>
-    ensures { result ≡ number_in flag_names text.now }
+    ensures { result ≡ flag_of text.now }
 {
     number_of(&FLAGS, text)
 }
@@ -164,4 +165,55 @@ fn byte_number(text: &[u8]) -> Option<u8>
         Some(number) => Some(number as u8),
         None => None,
     }
+}
+
+/// What stands before the first comma, and after it.
+fn parted(text: &[u8]) -> Option<(&[u8], &[u8])>
+    ensures some { IfSome result (λ p. (text.now ≡ p.0.now ++ 44 ∷ p.1.now) × All (λ b. b ≢ 44) p.0.now) }
+    ensures none { IfNone result (All (λ b. b ≢ 44) text.now) }
+{
+    for (i, byte) in text.iter().enumerate() {
+        if *byte == b',' {
+            return Some((&text[..i], &text[i + 1..]));
+        }
+    }
+    None
+}
+
+/// The flags that the parts between commas name together. None where some part is no flag's name.
+fn flags_of_parts(text: &[u8]) -> Option<u8>
+    ensures { result ≡ flags_of (slice_split (λ b. b == 44) text.now) }
+{
+    let mut rest = text;
+    let mut flags = 0;
+    while let Some((part, after)) = parted(rest) {
+        flags |= flag_named(part)?;
+        rest = after;
+    }
+    let last = flag_named(rest)?;
+    Some(flags | last)
+}
+
+/// Reads names of flags with commas between them.
+fn read_flag_list(text: &[u8]) -> Option<u8>
+    ensures some { IfSome result (IsFlagList text.now) }
+    ensures none { IfNone result ((flags : ℕ) → IsFlagList text.now flags → ⊥) }
+{
+    flags_of_parts(text)
+}
+
+/// Reads flags of tcp, as `--tcp-flags` of iptables-extensions(8) has them: ALL is 63, NONE is 0, and else names of
+/// flags with commas between them are the sum of these flags: FIN 1, SYN 2, RST 4, PSH 8, ACK 16, URG 32. A name may
+/// stand there twice. None exactly where the text is none of these: ALL and NONE stand alone, and no part is empty.
+pub fn read_flags(text: &[u8]) -> Option<u8>
+    ensures some { IfSome result (SpellsFlags text.now) }
+    ensures none { IfNone result ((flags : ℕ) → SpellsFlags text.now flags → ⊥) }
+{
+    if text == b"ALL".as_slice() {
+        return Some(63);
+    }
+    if text == b"NONE".as_slice() {
+        return Some(0);
+    }
+    read_flag_list(text)
 }
