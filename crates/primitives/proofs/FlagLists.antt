@@ -43,7 +43,7 @@ flag_passed rest part after f b w cut is all =
     let parts = slice_split (λ x. x == 44) after in
     let e : slice_split (λ x. x == 44) rest ≡ part ∷ parts = ap (slice_split (λ x. x == 44)) cut.0 ∙ slice_split_at (λ x. x == 44) part 44 after (free_lacks part cut.1) refl in
     sym (both_more f b (flags_of parts)) ∙ ap (λ r. flags_of_both (Some f) (flags_of_both r (flags_of parts))) (sym is)
-      ∙ ap (λ ps. flags_of_both (Some f) (flags_of ps)) (sym e) ∙ all
+    ∙ ap (λ ps. flags_of_both (Some f) (flags_of ps)) (sym e) ∙ all
 
 -- where the first part names no flag, the list names none
 pub flag_unknown : (rest part after : List ℕ) (f : ℕ) (w : Option ℕ) → (rest ≡ part ++ 44 ∷ after) × IsFree part → flag_of part ≡ None →
@@ -111,7 +111,7 @@ parted_again (part ∷ []) flags h is =
 parted_again (part ∷ next ∷ parts) flags h is =
     let first = named_first part (next ∷ parts) flags is in
     slice_split_at (λ b. b == 44) part 44 (join_with_byte 44 (next ∷ parts)) (flag_lacks part first.0 first.2) refl
-      ∙ ap (λ ps. part ∷ ps) (parted_again (next ∷ parts) first.1 (omega arith) first.3)
+    ∙ ap (λ ps. part ∷ ps) (parted_again (next ∷ parts) first.1 (omega arith) first.3)
 
 pub list_split : (text : List ℕ) (flags : ℕ) → flags_of (slice_split (λ b. b == 44) text) ≡ Some flags → IsFlagList text flags
 list_split text flags is = record {
@@ -142,7 +142,7 @@ none_spelled text (Some n) all none list = tt
 none_spelled text None all none list = λ flags spells. elim spells [
   | inl a ↦ all a.0
   | inr rest ↦ elim rest [
-      | inl a ↦ none a.0
-      | inr a ↦ list flags a
-    ]
+    | inl a ↦ none a.0
+    | inr a ↦ list flags a
+  ]
 ]
