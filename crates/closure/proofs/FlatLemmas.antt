@@ -1,0 +1,120 @@
+-- The steps of the flat list.
+use Rattle.std.proofs.Common.{◌≡◌, ℕ, zero, suc, ◌+◌, ◌-◌, ◌<◌, ◌≤◌, Bool, true, false, List, [], ◌∷◌, ◌++◌, drop, length, get_or, Some, slice_get, refl, sym, ◌∙◌, ap, subst, arith, append_assoc}
+use Rattle.match_expr.specs.declared.expr.Expr.{Expr}
+use Rattle.match_expr.specs.declared.expr.Expr.TheVariants.{All, Not}
+use Rattle.match_expr.specs.declared.expr.FlatRule.{FlatRule}
+use Rattle.fw_rule.specs.declared.rule.Rule.{Rule}
+use Rattle.fw_rule.specs.declared.rule.Chain.{Chain}
+use Rattle.fw_rule.specs.declared.rule.Dump.{Dump}
+use Rattle.fw_rule.specs.Walk.{Within, InSettled}
+use Rattle.fw_rule.proofs.Turns.{chain_read, rule_read}
+use Rattle.closure.specs.declared.sides.Side.{Side}
+use Rattle.closure.specs.declared.modes.Kind.{Kind}
+use Rattle.closure.specs.declared.modes.Kind.TheVariants.{GoodVerdict, BadVerdict, GoOn, GoBack, CallTo}
+use Rattle.closure.specs.declared.modes.Row.{Row}
+use Rattle.closure.specs.declared.modes.Escape.{Escape}
+use Rattle.closure.specs.declared.modes.Mode.{Mode}
+use Rattle.closure.specs.declared.modes.Mode.TheVariants.{Hard, Soft}
+use Rattle.fw_rule.specs.Matching.{known_of, doubt_in}
+use Rattle.closure.specs.Rewriting.{Tree, Decide, Leave, Block, kind, items, rules_of, tree}
+use Rattle.closure.specs.Rows.{row_of, shape, level}
+use Rattle.closure.specs.Flat.{escape, carried, stayed, escapes, flat_of}
+use Rattle.closure.proofs.RowLemmas.{row_is}
+
+pub escape_first : {P : Type 0} (past : List (Expr P)) (n : ℕ) (e : Expr P) (rest : List (Escape P)) → escape past n e rest ≡ escape past n e [] ++ rest
+escape_first past zero e rest = refl
+escape_first past (suc n) e rest = refl
+
+-- 0 in the mode in which a doubtful return is no block, else 1
+abbrev pub hardness : Mode → ℕ
+hardness Hard = 1
+hardness (Soft zero) = 0
+hardness (Soft (suc j)) = 1
+
+pub hardness_small : (m : Mode) → hardness m ≤ 1
+hardness_small Hard = omega arith
+hardness_small (Soft zero) = omega arith
+hardness_small (Soft (suc j)) = omega arith
+
+pub within_some : {P : Type 0} (dump : Dump P) (d c : ℕ) → Within dump d c → 1 ≤ d
+within_some dump zero c w = elim w [ ]
+within_some dump (suc d) c w = omega arith
+
+-- a row that runs a block is of a call
+pub run_kind : (side : Side) (d : Bool) (what : Kind) (mode inner : Mode) (c : ℕ) → Row.Run c inner ≡ row_of side d what mode → (what ≡ CallTo c) × (level inner ≤ level mode + 1)
+run_kind side true GoodVerdict mode inner c e = cc
+run_kind side false GoodVerdict mode inner c e = cc
+run_kind side true BadVerdict mode inner c e = cc
+run_kind side false BadVerdict Hard inner c e = cc
+run_kind side false BadVerdict (Soft j) inner c e = cc
+run_kind side true GoOn mode inner c e = cc
+run_kind side false GoOn mode inner c e = cc
+run_kind side false GoBack mode inner c e = cc
+run_kind side true GoBack Hard inner c e = cc
+run_kind side true GoBack (Soft zero) inner c e = cc
+run_kind side true GoBack (Soft (suc j)) inner c e = cc
+run_kind side false (CallTo k) Hard inner c e = let q : c ≡ k = cc in let r : inner ≡ Hard = cc in (rw q refl, rw r (omega arith))
+run_kind side false (CallTo k) (Soft j) inner c e = let q : c ≡ k = cc in let r : inner ≡ Soft (suc j) = cc in (rw q refl, rw r (omega arith))
+run_kind side true (CallTo k) mode inner c e = let q : c ≡ k = cc in let r : inner ≡ Soft 0 = cc in (rw q refl, rw r (omega arith))
+
+drop_at : {X : Type 0} (xs : List X) (n : ℕ) (x : X) → slice_get xs n ≡ Some x → drop n xs ≡ x ∷ drop (n + 1) xs
+drop_at [] n x e = cc
+drop_at (y ∷ xs) zero x e = let q : y ≡ x = cc in rw q refl
+drop_at (y ∷ xs) (suc n) x e = let q : suc (n + 1) ≡ suc n + 1 = omega arith in subst (λ (z : ℕ). drop n xs ≡ x ∷ drop z (y ∷ xs)) q (drop_at xs n x e)
+
+drop_past : {X : Type 0} (xs : List X) (n : ℕ) → length xs ≤ n → drop n xs ≡ []
+drop_past [] zero h = refl
+drop_past [] (suc n) h = refl
+drop_past (x ∷ xs) zero h = absurd (omega arith)
+drop_past (x ∷ xs) (suc n) h = drop_past xs n (omega arith)
+
+-- the items from a rule on
+pub items_at : {P : Type 0} (side : Side) (callee : ℕ → Mode → Tree P) (rules : List (Rule P)) (n : ℕ) (rule : Rule P) (mode : Mode) (r : Row) →
+    slice_get rules n ≡ Some rule → r ≡ row_of side (doubt_in rule.lits) (kind side rule.action) mode →
+    items side callee (drop n rules) mode ≡ shape callee (known_of rule) (λ (m : Mode). items side callee (drop (n + 1) rules) m) mode r
+items_at side callee rules n rule mode r e q =
+    rw (drop_at rules n rule e, q) (row_is side callee (known_of rule) (λ (m : Mode). items side callee (drop (n + 1) rules) m) (doubt_in rule.lits) (kind side rule.action) mode)
+
+module _ {P : Type 0} (around past : List (Expr P)) (k : Expr P) (out : List (FlatRule P)) (found : List (Escape P)) (R : List (FlatRule P)) (E : List (Escape P)) where
+  pub decided : (v : Bool) (rest : Tree P) (out' : List (FlatRule P)) → out' ≡ out ++ record { expr = All (around ++ past ++ k ∷ []); accept = v } ∷ [] →
+      out ++ flat_of around past (Decide k v rest) ≡ R → out' ++ flat_of around past rest ≡ R
+  decided v rest out' e h = rw e (append_assoc out (record { expr = All (around ++ past ++ k ∷ []); accept = v } ∷ []) (flat_of around past rest) ∙ h)
+
+  pub left_rules : (n : ℕ) (rest : Tree P) (past' : List (Expr P)) → past' ≡ past ++ Not k ∷ [] →
+      out ++ flat_of around past (Leave k n rest) ≡ R → out ++ flat_of around past' rest ≡ R
+  left_rules n rest past' e h = rw e h
+
+  pub left_escapes : (n : ℕ) (rest : Tree P) (past' : List (Expr P)) (found' : List (Escape P)) → past' ≡ past ++ Not k ∷ [] → found' ≡ found ++ escape past n k [] →
+      found ++ escapes past (Leave k n rest) ≡ E → found' ++ escapes past' rest ≡ E
+  left_escapes n rest past' found' e f h =
+      rw (e, f) (append_assoc found (escape past n k []) (escapes (past ++ Not k ∷ []) rest) ∙ ap (λ (z : List (Escape P)). found ++ z) (sym (escape_first past n k (escapes (past ++ Not k ∷ []) rest))) ∙ h)
+
+  pub ran_rules : (inner rest : Tree P) (out' : List (FlatRule P)) (xs : List (Escape P)) (past' : List (Expr P)) →
+      out' ≡ out ++ flat_of (around ++ past ++ k ∷ []) [] inner → xs ≡ escapes [] inner → past' ≡ past ++ stayed k xs →
+      out ++ flat_of around past (Block k inner rest) ≡ R → out' ++ flat_of around past' rest ≡ R
+  ran_rules inner rest out' xs past' e q f h =
+      rw (e, f, q) (append_assoc out (flat_of (around ++ past ++ k ∷ []) [] inner) (flat_of around (past ++ stayed k (escapes [] inner)) rest) ∙ h)
+
+  pub ran_escapes : (inner rest : Tree P) (xs : List (Escape P)) (past' : List (Expr P)) (found' : List (Escape P)) →
+      xs ≡ escapes [] inner → past' ≡ past ++ stayed k xs → found' ≡ found ++ carried past k xs →
+      found ++ escapes past (Block k inner rest) ≡ E → found' ++ escapes past' rest ≡ E
+  ran_escapes inner rest xs past' found' q f g h =
+      rw (f, g, q) (append_assoc found (carried past k (escapes [] inner)) (escapes (past ++ stayed k (escapes [] inner)) rest) ∙ h)
+
+-- the rule that the code has read
+pub rule_here : {P : Type 0} (dump : Dump P) (c next : ℕ) (chains : List (Chain P)) (x : Chain P) (rules : List (Rule P)) → chains ≡ dump.chains → InSettled dump c →
+    x ≡ get_or chains c x → rules ≡ (get_or chains c x).rules → (rule : Rule P) → next < length rules → rule ≡ get_or rules next rule → slice_get (rules_of dump c) next ≡ Some rule
+rule_here dump c next chains x rules a s b r rule n i =
+    let e : slice_get dump.chains c ≡ Some x = chain_read dump c next chains x rules a s b r in
+    rw e (rule_read dump c next chains x rules a s b r rule n i x e)
+
+pub rules_over : {P : Type 0} (dump : Dump P) (c next : ℕ) (chains : List (Chain P)) (x : Chain P) (rules : List (Rule P)) → chains ≡ dump.chains → InSettled dump c →
+    x ≡ get_or chains c x → rules ≡ (get_or chains c x).rules → length rules ≤ next → drop next (rules_of dump c) ≡ []
+rules_over dump c next chains x rules a s b r n =
+    let e : slice_get dump.chains c ≡ Some x = chain_read dump c next chains x rules a s b r in
+    rw e (drop_past x.rules next (let q : rules ≡ x.rules = r ∙ ap (λ (z : Chain _). z.rules) (sym b) in omega (arith, ap length q)))
+
+-- one more call
+pub tree_called : {P : Type 0} (side : Side) (dump : Dump P) (depth c : ℕ) (m : Mode) → 1 ≤ depth → tree side dump depth c m ≡ items side (tree side dump (depth - 1)) (drop 0 (rules_of dump c)) m
+tree_called side dump zero c m h = absurd (omega arith)
+tree_called side dump (suc d) c m h = let q : suc d - 1 ≡ d = omega arith in rw q refl

@@ -1,0 +1,153 @@
+-- The tree of a chain comes to the best outcome, in each mode.
+use Rattle.std.proofs.Common.{◌≡◌, ℕ, zero, suc, Bool, true, false, List, [], ◌∷◌, if◌then◌else◌, refl, sym, ◌∙◌, ap}
+use Rattle.match_expr.specs.Meaning.{eval_of}
+use Rattle.match_expr.specs.declared.expr.Expr.{Expr}
+use Rattle.fw_rule.specs.declared.rule.Rule.{Rule}
+use Rattle.fw_rule.specs.declared.rule.Dump.{Dump}
+use Rattle.closure.specs.declared.sides.Side.{Side}
+use Rattle.fw_rule.specs.Matching.{known_of, doubt_in}
+use Rattle.closure.specs.Rewriting.{Tree, Ran, Says, Leaves, Through, after_block, ran, kind, good, bad, row, items, rules_of, tree}
+use Rattle.closure.specs.declared.modes.Kind.{Kind}
+use Rattle.closure.specs.declared.modes.Kind.TheVariants.{GoodVerdict, BadVerdict, GoOn, GoBack, CallTo}
+use Rattle.closure.specs.declared.modes.Mode.{Mode}
+use Rattle.closure.specs.declared.modes.Mode.TheVariants.{Hard, Soft}
+use Rattle.closure.specs.Outcomes.{Outcome, Good, Ends, Bad, or_end, then_rest, or_rest, best_row, best_rules, best}
+
+-- to leave a block at its end is to come to its end
+abbrev pub settle : Ran → Ran
+settle (Says v) = Says v
+settle (Leaves zero) = Through
+settle (Leaves (suc n)) = Leaves (suc n)
+settle Through = Through
+
+-- what items in a mode come to where the outcome is this
+abbrev pub expected : Side → Mode → Outcome → Ran
+expected side mode Good = Says (good side)
+expected side mode Ends = Through
+expected side Hard Bad = Says (bad side)
+expected side (Soft zero) Bad = Through
+expected side (Soft (suc j)) Bad = Leaves (suc j)
+
+settle_after : (r x : Ran) → settle (after_block r x) ≡ settle (after_block (settle r) (settle x))
+settle_after (Says v) x = refl
+settle_after (Leaves zero) x = settled x
+  where
+    settled : (y : Ran) → settle y ≡ settle (settle y)
+    settled (Says v) = refl
+    settled (Leaves zero) = refl
+    settled (Leaves (suc n)) = refl
+    settled Through = refl
+settle_after (Leaves (suc n)) x = refl
+settle_after Through x = settled x
+  where
+    settled : (y : Ran) → settle y ≡ settle (settle y)
+    settled (Says v) = refl
+    settled (Leaves zero) = refl
+    settled (Leaves (suc n)) = refl
+    settled Through = refl
+
+module _ (side : Side) where
+  as_expected : (mode : Mode) (b : Outcome) → settle (expected side mode b) ≡ expected side mode b
+  as_expected mode Good = refl
+  as_expected mode Ends = refl
+  as_expected Hard Bad = refl
+  as_expected (Soft zero) Bad = refl
+  as_expected (Soft (suc j)) Bad = refl
+
+  called_hard : (a b : Outcome) → settle (after_block (expected side Hard a) (expected side Hard b)) ≡ expected side Hard (then_rest a b)
+  called_hard Good b = refl
+  called_hard Ends b = as_expected Hard b
+  called_hard Bad b = refl
+
+  called_soft : (j : ℕ) (a b : Outcome) → settle (after_block (expected side (Soft (suc j)) a) (expected side (Soft j) b)) ≡ expected side (Soft j) (then_rest a b)
+  called_soft j Good b = refl
+  called_soft j Ends b = as_expected (Soft j) b
+  called_soft zero Bad b = refl
+  called_soft (suc j) Bad b = refl
+
+  called_in_doubt : (mode : Mode) (a b : Outcome) → settle (after_block (expected side (Soft 0) a) (expected side mode b)) ≡ expected side mode (or_rest a b)
+  called_in_doubt mode Good b = refl
+  called_in_doubt mode Ends b = as_expected mode b
+  called_in_doubt mode Bad b = as_expected mode b
+
+  back_in_doubt : (mode : Mode) (b : Outcome) → settle (after_block (expected side (Soft 0) b) Through) ≡ expected side mode (or_end b)
+  back_in_doubt mode Good = refl
+  back_in_doubt mode Ends = refl
+  back_in_doubt mode Bad = refl
+
+  kept : (b : Outcome) → expected side (Soft zero) (or_end b) ≡ expected side (Soft zero) b
+  kept Good = refl
+  kept Ends = refl
+  kept Bad = refl
+
+  after_is : (r x r' x' : Ran) → settle r ≡ r' → settle x ≡ x' → settle (after_block r x) ≡ settle (after_block r' x')
+  after_is r x r' x' e q = settle_after r x ∙ rw (e, q) refl
+
+  module _ {P : Type 0} (h : P → Bool) (callee : ℕ → Mode → Tree P) (k : Expr P) (rest : Mode → Tree P) where
+    -- where the known literals don't hold, the rest is tried
+    row_missed : eval_of h k ≡ false → (d : Bool) (what : Kind) (mode : Mode) → ran h (row side callee k rest d what mode) ≡ ran h (rest mode)
+    row_missed e false GoodVerdict mode = rw e refl
+    row_missed e true GoodVerdict mode = rw e refl
+    row_missed e false BadVerdict Hard = rw e refl
+    row_missed e false BadVerdict (Soft j) = rw e refl
+    row_missed e true BadVerdict mode = refl
+    row_missed e false GoOn mode = refl
+    row_missed e true GoOn mode = refl
+    row_missed e false GoBack mode = rw e refl
+    row_missed e true GoBack Hard = rw e refl
+    row_missed e true GoBack (Soft zero) = refl
+    row_missed e true GoBack (Soft (suc j)) = rw e refl
+    row_missed e false (CallTo c) Hard = rw e refl
+    row_missed e false (CallTo c) (Soft j) = rw e refl
+    row_missed e true (CallTo c) mode = rw e refl
+
+    module _ (callee_best : ℕ → Outcome) (rest_best : Outcome)
+        (callee_is : (c : ℕ) (mode : Mode) → settle (ran h (callee c mode)) ≡ expected side mode (callee_best c))
+        (rest_is : (mode : Mode) → settle (ran h (rest mode)) ≡ expected side mode rest_best) where
+      row_taken : eval_of h k ≡ true → (d : Bool) (what : Kind) (mode : Mode) →
+          settle (ran h (row side callee k rest d what mode)) ≡ expected side mode (best_row callee_best rest_best d what)
+      row_taken e false GoodVerdict mode = rw e refl
+      row_taken e true GoodVerdict mode = rw e refl
+      row_taken e false BadVerdict Hard = rw e refl
+      row_taken e false BadVerdict (Soft zero) = rw e refl
+      row_taken e false BadVerdict (Soft (suc j)) = rw e refl
+      row_taken e true BadVerdict mode = rest_is mode
+      row_taken e false GoOn mode = rest_is mode
+      row_taken e true GoOn mode = rest_is mode
+      row_taken e false GoBack mode = rw e refl
+      row_taken e true GoBack Hard =
+          rw e (after_is (ran h (rest (Soft 0))) (Leaves 0) (expected side (Soft 0) rest_best) Through (rest_is (Soft 0)) refl ∙ back_in_doubt Hard rest_best)
+      row_taken e true GoBack (Soft zero) = rest_is (Soft zero) ∙ sym (kept rest_best)
+      row_taken e true GoBack (Soft (suc j)) =
+          rw e (after_is (ran h (rest (Soft 0))) (Leaves 0) (expected side (Soft 0) rest_best) Through (rest_is (Soft 0)) refl ∙ back_in_doubt (Soft (suc j)) rest_best)
+      row_taken e false (CallTo c) Hard =
+          rw e (after_is (ran h (callee c Hard)) (ran h (rest Hard)) (expected side Hard (callee_best c)) (expected side Hard rest_best) (callee_is c Hard) (rest_is Hard)
+          ∙ called_hard (callee_best c) rest_best)
+      row_taken e false (CallTo c) (Soft j) =
+          rw e (after_is (ran h (callee c (Soft (suc j)))) (ran h (rest (Soft j))) (expected side (Soft (suc j)) (callee_best c)) (expected side (Soft j) rest_best) (callee_is c (Soft (suc j))) (rest_is (Soft j))
+          ∙ called_soft j (callee_best c) rest_best)
+      row_taken e true (CallTo c) mode =
+          rw e (after_is (ran h (callee c (Soft 0))) (ran h (rest mode)) (expected side (Soft 0) (callee_best c)) (expected side mode rest_best) (callee_is c (Soft 0)) (rest_is mode)
+          ∙ called_in_doubt mode (callee_best c) rest_best)
+
+  module _ {P : Type 0} (h : P → Bool) where
+    by_known : (callee : ℕ → Mode → Tree P) (callee_best : ℕ → Outcome) (k : Expr P) (rest : Mode → Tree P) (rest_best : Outcome) →
+        ((c : ℕ) (mode : Mode) → settle (ran h (callee c mode)) ≡ expected side mode (callee_best c)) →
+        ((mode : Mode) → settle (ran h (rest mode)) ≡ expected side mode rest_best) →
+        (d : Bool) (what : Kind) (mode : Mode) (b : Bool) → eval_of h k ≡ b →
+        settle (ran h (row side callee k rest d what mode)) ≡ expected side mode (if b then best_row callee_best rest_best d what else rest_best)
+    by_known callee callee_best k rest rest_best callee_is rest_is d what mode true e = row_taken h callee k rest callee_best rest_best callee_is rest_is e d what mode
+    by_known callee callee_best k rest rest_best callee_is rest_is d what mode false e = ap settle (row_missed h callee k rest e d what mode) ∙ rest_is mode
+
+    rules_come : (callee : ℕ → Mode → Tree P) (callee_best : ℕ → Outcome) →
+        ((c : ℕ) (mode : Mode) → settle (ran h (callee c mode)) ≡ expected side mode (callee_best c)) →
+        (rules : List (Rule P)) (mode : Mode) → settle (ran h (items side callee rules mode)) ≡ expected side mode (best_rules side h callee_best rules)
+    rules_come callee callee_best callee_is [] mode = refl
+    rules_come callee callee_best callee_is (rule ∷ rules) mode =
+        by_known callee callee_best (known_of rule) (λ (m : Mode). items side callee rules m) (best_rules side h callee_best rules) callee_is
+        (λ m. rules_come callee callee_best callee_is rules m) (doubt_in rule.lits) (kind side rule.action) mode (eval_of h (known_of rule)) refl
+
+    -- the tree of a chain comes to the best outcome
+    pub tree_comes : (dump : Dump P) (depth c : ℕ) (mode : Mode) → settle (ran h (tree side dump depth c mode)) ≡ expected side mode (best side h dump depth c)
+    tree_comes dump zero c mode = refl
+    tree_comes dump (suc depth) c mode = rules_come (tree side dump depth) (best side h dump depth) (tree_comes dump depth) (rules_of dump c) mode

@@ -1,0 +1,97 @@
+-- The rewriting of a chain's rules into a tree of items.
+use Rattle.std.specs.Prelude.{ℕ, zero, suc, ◌+◌, Bool, true, false, if◌then◌else◌, List, [], ◌∷◌, Option, None, Some, slice_get}
+use Rattle.match_expr.specs.Meaning.{eval_of}
+use Rattle.match_expr.specs.declared.expr.Expr.{Expr}
+use Rattle.fw_rule.specs.declared.rule.Action.{Action}
+use Rattle.fw_rule.specs.declared.rule.Rule.{Rule}
+use Rattle.fw_rule.specs.declared.rule.Chain.{Chain}
+use Rattle.fw_rule.specs.declared.rule.Dump.{Dump}
+use Rattle.fw_rule.specs.Matching.{known_of, doubt_in}
+use Rattle.closure.specs.declared.modes.Kind.{Kind}
+use Rattle.closure.specs.declared.modes.Kind.TheVariants.{GoodVerdict, BadVerdict, GoOn, GoBack, CallTo}
+use Rattle.closure.specs.declared.modes.Mode.{Mode}
+use Rattle.closure.specs.declared.modes.Mode.TheVariants.{Hard, Soft}
+use Rattle.closure.specs.declared.sides.Side.{Side}
+
+-- items, one after another: a verdict, a way out of this block and `n` more, or a block of items
+pub data Tree (P : Type 0) : Type 0 where
+  Done : Tree P
+  Decide : Expr P → Bool → Tree P → Tree P
+  Leave : Expr P → ℕ → Tree P → Tree P
+  Block : Expr P → Tree P → Tree P → Tree P
+
+-- what items come to: a verdict, past the end of `n` blocks more than this one, or their own end
+pub data Ran : Type 0 where
+  Says : Bool → Ran
+  Leaves : ℕ → Ran
+  Through : Ran
+
+abbrev pub after_block : Ran → Ran → Ran
+after_block (Says v) rest = Says v
+after_block (Leaves zero) rest = rest
+after_block (Leaves (suc n)) rest = Leaves n
+after_block Through rest = rest
+
+-- what the items come to where `h` is the truth of primitives
+abbrev pub ran : {P : Type 0} → (P → Bool) → Tree P → Ran
+ran h Done = Through
+ran h (Decide e v rest) = if eval_of h e then Says v else ran h rest
+ran h (Leave e n rest) = if eval_of h e then Leaves n else ran h rest
+ran h (Block e inner rest) = if eval_of h e then after_block (ran h inner) (ran h rest) else ran h rest
+
+-- the number of items at all depths
+abbrev pub nodes : {P : Type 0} → Tree P → ℕ
+nodes Done = 0
+nodes (Decide e v rest) = suc (nodes rest)
+nodes (Leave e n rest) = suc (nodes rest)
+nodes (Block e inner rest) = suc (nodes inner + nodes rest)
+
+-- an unsupported target does nothing here; a settled dump has none
+abbrev pub kind : Side → Action → Kind
+kind Side.Upper Action.Accept = GoodVerdict
+kind Side.Upper Action.Drop = BadVerdict
+kind Side.Lower Action.Accept = BadVerdict
+kind Side.Lower Action.Drop = GoodVerdict
+kind side Action.Pass = GoOn
+kind side Action.Back = GoBack
+kind side (Action.Call k) = CallTo k
+kind side (Action.Other name) = GoOn
+
+abbrev pub good : Side → Bool
+good Side.Upper = true
+good Side.Lower = false
+
+abbrev pub bad : Side → Bool
+bad Side.Upper = false
+bad Side.Lower = true
+
+-- the items of one rule and of the rest: a line of the table each, `k` its known literals and `d` whether it is doubtful
+abbrev pub row : {P : Type 0} → Side → (ℕ → Mode → Tree P) → Expr P → (Mode → Tree P) → Bool → Kind → Mode → Tree P
+row side callee k rest d GoodVerdict mode = Decide k (good side) (rest mode)
+row side callee k rest false BadVerdict Hard = Decide k (bad side) (rest Hard)
+row side callee k rest false BadVerdict (Soft j) = Leave k j (rest (Soft j))
+row side callee k rest true BadVerdict mode = rest mode
+row side callee k rest d GoOn mode = rest mode
+row side callee k rest false GoBack mode = Leave k 0 (rest mode)
+row side callee k rest true GoBack (Soft zero) = rest (Soft zero)
+row side callee k rest true GoBack mode = Block k (rest (Soft 0)) (Leave k 0 (rest mode))
+row side callee k rest false (CallTo c) Hard = Block k (callee c Hard) (rest Hard)
+row side callee k rest false (CallTo c) (Soft j) = Block k (callee c (Soft (suc j))) (rest (Soft j))
+row side callee k rest true (CallTo c) mode = Block k (callee c (Soft 0)) (rest mode)
+
+abbrev pub items : {P : Type 0} → Side → (ℕ → Mode → Tree P) → List (Rule P) → Mode → Tree P
+items side callee [] mode = Done
+items side callee (rule ∷ rules) mode =
+    row side callee (known_of rule) (λ (m : Mode). items side callee rules m) (doubt_in rule.lits) (kind side rule.action) mode
+
+abbrev pub rules_at : {P : Type 0} → Option (Chain P) → List (Rule P)
+rules_at None = []
+rules_at (Some here) = here.rules
+
+abbrev pub rules_of : {P : Type 0} → Dump P → ℕ → List (Rule P)
+rules_of dump c = rules_at (slice_get dump.chains c)
+
+-- the tree of a chain, where no call path from it has more than `depth` chains
+abbrev pub tree : {P : Type 0} → Side → Dump P → ℕ → ℕ → Mode → Tree P
+tree side dump zero c mode = Done
+tree side dump (suc depth) c mode = items side (tree side dump depth) (rules_of dump c) mode

@@ -1,0 +1,68 @@
+ghost use Rattle.std.specs.Prelude.{◌≡◌, ◌++◌, ◌∷◌, [], IfOk, OnOk};
+ghost use Rattle.closure.specs.Rewriting as spec;
+
+use crate::modes::Kind;
+use crate::sides::Side;
+use fw_rule::Action;
+use match_expr::{Expr, Primitive};
+use std::alloc::{AllocError, Global};
+
+/// What an action is to a side.
+pub fn kind_of(side: Side, action: &Action) -> Kind
+    ensures { result ≡ spec.kind side action.now }
+{
+    match (side, action) {
+        (Side::Upper, Action::Accept) => Kind::GoodVerdict,
+        (Side::Upper, Action::Drop) => Kind::BadVerdict,
+        (Side::Lower, Action::Accept) => Kind::BadVerdict,
+        (Side::Lower, Action::Drop) => Kind::GoodVerdict,
+        (_, Action::Pass) => Kind::GoOn,
+        (_, Action::Back) => Kind::GoBack,
+        (_, Action::Call(callee)) => Kind::CallTo(*callee),
+        (_, Action::Other(_)) => Kind::GoOn,
+    }
+}
+
+/// Copies of the expressions behind the others.
+fn push_copies<P: Primitive>(
+    alloc: Global,
+    parts: &mut Vec<Expr<P>>,
+    more: &[Expr<P>],
+) -> Result<(), AllocError>
+    ensures { OnOk result (parts.new.items ≡ parts.old.items ++ more.now) }
+{
+    for part in more {
+        parts.push(part.copy(alloc)?)?;
+    }
+    Ok(())
+}
+
+/// The parts of both lists, and the expression.
+pub fn joined<P: Primitive>(
+    alloc: Global,
+    around: &[Expr<P>],
+    past: &[Expr<P>],
+    e: &Expr<P>,
+) -> Result<Vec<Expr<P>>, AllocError>
+    ensures { IfOk result (λ v. v.items ≡ around.now ++ past.now ++ e.now ∷ []) }
+{
+    let mut parts = Vec::new(alloc);
+    push_copies(alloc, &mut parts, around)?;
+    push_copies(alloc, &mut parts, past)?;
+    parts.push(e.copy(alloc)?)?;
+    Ok(parts)
+}
+
+/// The parts, and the expression.
+pub fn behind<P: Primitive>(
+    alloc: Global,
+    past: &[Expr<P>],
+    e: &Expr<P>,
+) -> Result<Vec<Expr<P>>, AllocError>
+    ensures { IfOk result (λ v. v.items ≡ past.now ++ e.now ∷ []) }
+{
+    let mut parts = Vec::new(alloc);
+    push_copies(alloc, &mut parts, past)?;
+    parts.push(e.copy(alloc)?)?;
+    Ok(parts)
+}
