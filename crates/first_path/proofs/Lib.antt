@@ -6,3 +6,4 @@ pub mod PrintedLemmas
 pub mod MeaningLemmas
 pub mod UpperLemmas
 pub mod PartLemmas
+pub mod LawLemmas

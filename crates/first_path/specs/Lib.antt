@@ -4,3 +4,4 @@ pub mod Printed
 pub mod Outside
 pub mod Upper
 pub mod Pieces
+pub mod Laws

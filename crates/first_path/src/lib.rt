@@ -2,6 +2,7 @@
 #![tactic(auto)]
 
 mod fault;
+mod laws;
 mod lines;
 mod nets;
 mod path;
@@ -10,6 +11,10 @@ mod printer;
 mod words;
 
 pub use fault::FormFault;
+pub use laws::form_laws;
 pub use lines::Line;
 pub use nets::Net;
 pub use path::upper;
+
+#[cfg(test)]
+mod tests;
