@@ -45,7 +45,7 @@ fn target(words: &[&[u8]]) -> Option<bool>
     verdict(word)
 }
 
-// Reads the words of a rule line.
+/// Reads the words of a rule line; `None` where they are those of no rule line.
 pub fn read_rule<F: Family<W>, const W: u32>(words: &[&[u8]]) -> Option<Line>
     ensures some { IfSome result (λ r. IsRule F.Reads W (texts words.now) r) }
     ensures none { IfNone result ((r : Line) → IsRule F.Reads W (texts words.now) r → ⊥) }
@@ -72,7 +72,7 @@ pub fn read_rule<F: Family<W>, const W: u32>(words: &[&[u8]]) -> Option<Line>
     })
 }
 
-// Reads the chain's line, the first one here: whether its policy accepts.
+/// Reads the chain's line, the first one here: whether its policy accepts; `None` where it is no such line.
 pub fn policy(lines: &[&[u8]]) -> Option<bool>
     ensures some { IfSome result (λ b. (more : List Text) × (texts lines.now ≡ header_line b ∷ more)) }
     ensures none { IfNone result ((b : Bool) (more : List Text) → texts lines.now ≡ header_line b ∷ more → ⊥) }

@@ -12,7 +12,7 @@ pub struct Net {
     pub len: u32,
 }
 
-// Reads an address with its length, or an address alone.
+/// Reads an address with its length, or an address alone; `None` where the text is neither.
 pub fn read_net<F: Family<W>, const W: u32>(text: &[u8]) -> Option<Net>
     ensures some { IfSome result (λ n. IsNet F.Reads W text.now n) }
     ensures none { IfNone result ((n : Net) → IsNet F.Reads W text.now n → ⊥) }

@@ -71,7 +71,7 @@ fn print_verdict(accept: bool, out: &mut Vec<u8>) -> Result<(), AllocError>
     }
 }
 
-// Appends a rule line with its line feed.
+/// Appends a rule line with its line feed.
 pub fn print_rule<F: Family<W>, const W: u32>(
     rule: &Line,
     out: &mut Vec<u8>,
@@ -90,7 +90,7 @@ pub fn print_rule<F: Family<W>, const W: u32>(
     Ok(())
 }
 
-// Appends the two lines at the head.
+/// Appends the two lines at the head.
 pub fn print_head(accept: bool, out: &mut Vec<u8>) -> Result<(), AllocError>
     ensures { OnOk result (out.new.items ≡ out.old.items ++ printed_head accept) }
 {

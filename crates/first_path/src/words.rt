@@ -6,7 +6,7 @@ use crate::nets::{Net, read_net};
 use crate::pieces::is_same;
 use addr_text::Family;
 
-// The first word, and those after it.
+/// The first word, and those after it.
 pub fn first<'w, 'a>(words: &'w [&'a [u8]]) -> Option<(&'a [u8], &'w [&'a [u8]])>
     ensures some { IfSome result (λ p. texts words.now ≡ p.0.now ∷ texts p.1.now) }
     ensures none { IfNone result ((w : Text) (rest : List Text) → texts words.now ≡ w ∷ rest → ⊥) }
@@ -15,7 +15,7 @@ pub fn first<'w, 'a>(words: &'w [&'a [u8]]) -> Option<(&'a [u8], &'w [&'a [u8]])
     Some((*word, rest))
 }
 
-// What follows this word.
+/// What follows this word, where it is the first.
 pub fn after<'w, 'a>(words: &'w [&'a [u8]], word: &[u8]) -> Option<&'w [&'a [u8]]>
     ensures some { IfSome result (λ r. texts words.now ≡ word.now ∷ texts r.now) }
     ensures none { IfNone result (NotFirst word.now (texts words.now)) }
@@ -30,7 +30,7 @@ pub fn after<'w, 'a>(words: &'w [&'a [u8]], word: &[u8]) -> Option<&'w [&'a [u8]
     }
 }
 
-// An option at the front, and what follows it.
+/// An option at the front, if it is there, and what follows it; `None` where its net is missing or wrong.
 pub fn option<'w, 'a, F: Family<W>, const W: u32>(
     words: &'w [&'a [u8]],
     flag: &[u8],
