@@ -1,6 +1,5 @@
-use Rattle.std.proofs.Common.{◌≡◌, ◌==◌, ℕ, Option, Some, None, sym, ◌∙◌, rules}
-use Rattle.std.specs.List.{slice_split}
-use Rattle.primitives.specs.Words.{flag_of, flags_of}
+use Rattle.std.proofs.Common.{◌≡◌, None, sym, ◌∙◌, rules}
+use Rattle.primitives.specs.Words.{flag_of}
 use Rattle.primitives.proofs.FlagLists.{flag_last, flag_last_some, flag_passed, flag_unknown}
 use Rattle.primitives.proofs.words.flags_of_parts.Goals as goal
 
