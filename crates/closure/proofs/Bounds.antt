@@ -12,17 +12,8 @@ use Rattle.fw_rule.specs.Matching.{known_of, known_in, doubt_in}
 use Rattle.closure.specs.Rewriting.{kind, rules_of}
 use Rattle.closure.specs.declared.modes.Kind.{Kind}
 use Rattle.closure.specs.declared.modes.Kind.TheVariants.{GoodVerdict, BadVerdict, GoOn, GoBack, CallTo}
+use Rattle.closure.specs.Laws.{AsGood}
 use Rattle.closure.specs.Outcomes.{Outcome, Good, Ends, Bad, or_end, then_rest, or_rest, best_row, best_rules, best, Truth, under, step_of, lits_hold, walked_rules, walked}
-
--- whether the one is as good as the other
-abbrev pub AsGood : Outcome → Outcome → Type 0
-AsGood Good o = Unit {0}
-AsGood Ends Good = ⊥
-AsGood Ends Ends = Unit {0}
-AsGood Ends Bad = Unit {0}
-AsGood Bad Good = ⊥
-AsGood Bad Ends = ⊥
-AsGood Bad Bad = Unit {0}
 
 as_bad : (a : Outcome) → AsGood a Bad
 as_bad Good = tt

@@ -20,7 +20,8 @@ use Rattle.closure.specs.Flat.{flat_list}
 use Rattle.closure.specs.Outcomes.{Outcome, best_row, best_rules, best, Truth, under, step_of, lits_hold, walked_rules, walked}
 use Rattle.closure.specs.Sides.{is_accept, IsSure}
 use Rattle.closure.proofs.Bounds.{sure_rule}
-use Rattle.closure.proofs.Tightness.{truth_of, row_if}
+use Rattle.closure.specs.Laws.{truth_of}
+use Rattle.closure.proofs.Tightness.{row_if}
 use Rattle.closure.proofs.Exact.{accepts, list_has, accepting, accepted}
 
 pub calls : (side : Side) (action : Action) (k : ℕ) → kind side action ≡ CallTo k → action ≡ Action.Call k

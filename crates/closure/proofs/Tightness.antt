@@ -1,6 +1,5 @@
 -- Some walk has the best outcome.
 use Rattle.std.proofs.Common.{◌≡◌, ℕ, zero, suc, ◌+◌, ◌<◌, ◌≤◌, Bool, true, false, not, ◌&&◌, ◌||◌, ◌==◌, List, [], ◌∷◌, ◌++◌, map, if◌then◌else◌, refl, sym, ◌∙◌, ap, subst, true≢false, arith, eqb}
-use Rattle.std.specs.List.{list_any}
 use Rattle.std.specs.Cmp.Lexicographic.{pointwise}
 use Rattle.std.proofs.lemmas.List.Folds.{list_any-append}
 use Rattle.std.proofs.lemmas.Bool.Decides.{nat_tests}
@@ -18,11 +17,8 @@ use Rattle.fw_rule.specs.Matching.{known_of, known_in, doubt_in}
 use Rattle.closure.specs.Rewriting.{kind, rules_of}
 use Rattle.closure.specs.declared.modes.Kind.{Kind}
 use Rattle.closure.specs.declared.modes.Kind.TheVariants.{GoodVerdict, BadVerdict, GoOn, GoBack, CallTo}
+use Rattle.closure.specs.Laws.{truth_of}
 use Rattle.closure.specs.Outcomes.{Outcome, Good, Ends, Bad, then_rest, or_rest, best_row, best_rules, best, Truth, under, step_of, lits_hold, walked_rules, walked}
-
--- the truth that a meaning gives
-abbrev pub truth_of : Meaning → Truth
-truth_of m steps l = list_any (same_place (record { steps = steps; lit = l })) m
 
 -- the same places, one call further down
 abbrev pub below : Step → Meaning → Meaning

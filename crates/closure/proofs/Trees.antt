@@ -6,27 +6,13 @@ use Rattle.fw_rule.specs.declared.rule.Rule.{Rule}
 use Rattle.fw_rule.specs.declared.rule.Dump.{Dump}
 use Rattle.closure.specs.declared.sides.Side.{Side}
 use Rattle.fw_rule.specs.Matching.{known_of, doubt_in}
-use Rattle.closure.specs.Rewriting.{Tree, Ran, Says, Leaves, Through, after_block, ran, kind, good, bad, row, items, rules_of, tree}
+use Rattle.closure.specs.Rewriting.{Tree, Ran, Says, Leaves, Through, after_block, ran, kind, row, items, rules_of, tree}
 use Rattle.closure.specs.declared.modes.Kind.{Kind}
 use Rattle.closure.specs.declared.modes.Kind.TheVariants.{GoodVerdict, BadVerdict, GoOn, GoBack, CallTo}
 use Rattle.closure.specs.declared.modes.Mode.{Mode}
 use Rattle.closure.specs.declared.modes.Mode.TheVariants.{Hard, Soft}
+use Rattle.closure.specs.Laws.{settle, expected}
 use Rattle.closure.specs.Outcomes.{Outcome, Good, Ends, Bad, or_end, then_rest, or_rest, best_row, best_rules, best}
-
--- to leave a block at its end is to come to its end
-abbrev pub settle : Ran → Ran
-settle (Says v) = Says v
-settle (Leaves zero) = Through
-settle (Leaves (suc n)) = Leaves (suc n)
-settle Through = Through
-
--- what items in a mode come to where the outcome is this
-abbrev pub expected : Side → Mode → Outcome → Ran
-expected side mode Good = Says (good side)
-expected side mode Ends = Through
-expected side Hard Bad = Says (bad side)
-expected side (Soft zero) Bad = Through
-expected side (Soft (suc j)) Bad = Leaves (suc j)
 
 settle_after : (r x : Ran) → settle (after_block r x) ≡ settle (after_block (settle r) (settle x))
 settle_after (Says v) x = refl

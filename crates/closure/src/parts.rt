@@ -23,7 +23,7 @@ pub fn kind_of(side: Side, action: &Action) -> Kind
     }
 }
 
-/// Copies of the expressions behind the others.
+/// Puts copies of the expressions behind the others.
 fn push_copies<P: Primitive>(
     alloc: Global,
     parts: &mut Vec<Expr<P>>,
@@ -37,23 +37,7 @@ fn push_copies<P: Primitive>(
     Ok(())
 }
 
-/// The parts of both lists, and the expression.
-pub fn joined<P: Primitive>(
-    alloc: Global,
-    around: &[Expr<P>],
-    past: &[Expr<P>],
-    e: &Expr<P>,
-) -> Result<Vec<Expr<P>>, AllocError>
-    ensures { IfOk result (λ v. v.items ≡ around.now ++ past.now ++ e.now ∷ []) }
-{
-    let mut parts = Vec::new(alloc);
-    push_copies(alloc, &mut parts, around)?;
-    push_copies(alloc, &mut parts, past)?;
-    parts.push(e.copy(alloc)?)?;
-    Ok(parts)
-}
-
-/// The parts, and the expression.
+/// Copies of the parts, and of the expression behind them.
 pub fn behind<P: Primitive>(
     alloc: Global,
     past: &[Expr<P>],

@@ -1,0 +1,69 @@
+ghost use Rattle.std.specs.Prelude.{◌≡◌, Some, slice_get, IfOk, IfErr, OnOk};
+ghost use Rattle.fw_rule.specs.Walk.{Settled, Within};
+ghost use Rattle.fw_rule.specs.declared.rule.Chain.{Chain};
+ghost use Rattle.fw_rule.specs.declared.rule.Verdict.{Verdict};
+ghost use Rattle.closure.specs.Rewriting.{tree};
+ghost use Rattle.closure.specs.Flat.{flat_list};
+ghost use Rattle.closure.specs.Limits.{IsSmall, Passes};
+ghost use Rattle.closure.specs.Sides.{ClosesTo};
+ghost use Rattle.closure.specs.declared.limits.FlatFault.TheVariants.{Memory};
+ghost use Rattle.closure.specs.declared.modes.Mode.TheVariants.{Hard};
+
+use crate::counting::count_nodes;
+use crate::flattening::flat_rules;
+use crate::sides::Side;
+use crate::totals::count_literals;
+use fw_rule::Dump;
+use match_expr::{FlatRule, List, Primitive};
+use std::alloc::{AllocError, Global};
+use thiserror::Error;
+
+/// Why a flat list isn't made.
+#[derive(Clone, Copy, Debug, PartialEq, Eq, Error)]
+pub enum FlatFault {
+    /// The rewritten tree has more than 262,144 items.
+    #[error("too many nodes")]
+    Nodes,
+    /// The tree keeps to its limit, and the flat list has more than 4,194,304 literals, repeats counted.
+    #[error("too many literals")]
+    Literals,
+    /// Memory ran out.
+    #[error("out of memory")]
+    Memory,
+}
+
+impl From<AllocError> for FlatFault {
+    ghost from_gives = { λ _ e. e ≡ Memory };
+
+    fn from(_: AllocError) -> Self {
+        FlatFault::Memory
+    }
+}
+
+/// The flat list of a chain: read by first match, with the chain's policy at its end, it accepts exactly what may (Upper) or must (Lower) be accepted.
+///
+/// No call path from the chain has more than `depth` chains. `Nodes` comes exactly where the tree has more than 262,144 items, and `Literals` exactly where it hasn't and the list has more
+/// than 4,194,304 literals. Both are counted before the list is built.
+pub fn flat<P: Primitive>(
+    alloc: Global,
+    dump: &Dump<P>,
+    depth: u32,
+    chain: u32,
+    side: Side,
+) -> Result<List<FlatRule<P>>, FlatFault>
+    requires settled { Settled dump.now chain }
+    requires within { Within dump.now depth chain }
+    ensures is { IfOk result (λ rules. rules ≡ flat_list (tree side dump.now depth chain Hard)) }
+    ensures small { OnOk result (IsSmall (tree side dump.now depth chain Hard)) }
+    ensures refused { IfErr result (λ fault. Passes (tree side dump.now depth chain Hard) fault) }
+    ensures closes { IfOk result (λ rules. (here : Chain P) (policy : Verdict) → slice_get dump.now.chains chain ≡ Some here → here.policy ≡ Some policy → ClosesTo P.meaning side dump.now chain policy rules) }
+{
+    if count_nodes(alloc, dump, depth, chain, side)? > 262_144 {
+        return Err(FlatFault::Nodes);
+    }
+    if count_literals(alloc, dump, depth, chain, side)? > 4_194_304 {
+        return Err(FlatFault::Literals);
+    }
+    let rules = flat_rules(alloc, dump, depth, chain, side)?;
+    Ok(rules)
+}

@@ -1,0 +1,75 @@
+ghost use Rattle.std.specs.Prelude.{◌≡◌, ◌-◌, ◌^◌, min, IfOk};
+ghost use Rattle.fw_rule.specs.Walk.{Settled, Within};
+ghost use Rattle.closure.specs.Counts.{capped};
+ghost use Rattle.closure.specs.Totals.{total_of};
+ghost use Rattle.closure.specs.Rewriting.{tree};
+ghost use Rattle.closure.specs.Flat.{flat_list, literals_in};
+ghost use Rattle.closure.specs.declared.modes.Mode.TheVariants.{Hard};
+
+use crate::modes::Mode;
+use crate::sides::Side;
+use crate::streaming::{State, stream_from};
+use fw_rule::Dump;
+use match_expr::{Expr, Primitive};
+use std::alloc::{AllocError, Global};
+
+/// How many literals stand in the parts of a flat rule's expression, up to some point of the tree. The number stops at 2^64 - 1.
+#[derive(Debug, Drop)]
+pub struct Total {
+    pub literals: u64,
+}
+
+impl<P: Primitive> State<P> for Total {
+    ghost use Rattle.std.specs.Prelude.{◌+◌};
+    ghost use Rattle.match_expr.specs.Meaning.{literal_count};
+    ghost use Rattle.closure.specs.Counts.{capped};
+
+    ghost left = { λ s e. record { literals = capped (s.literals + literal_count e) } };
+
+    fn cut(&self, _alloc: Global, e: &Expr<P>) -> Result<Total, AllocError> {
+        let more = e.literals();
+        Ok(Total {
+            literals: self.literals.saturating_add(more),
+        })
+    }
+}
+
+/// The sum of the numbers of all flat rules. It stops at 2^64 - 1.
+fn sum(states: &[(Total, bool)]) -> u64
+    ensures { result ≡ capped (total_of states.now) }
+{
+    let mut count: u64 = 0;
+    for state in states {
+        count = count.saturating_add(state.0.literals);
+    }
+    count
+}
+
+/// The number of literals of a chain's flat list, repeats counted. It stops at 2^64 - 1. The list isn't built.
+pub fn count_literals<P: Primitive>(
+    alloc: Global,
+    dump: &Dump<P>,
+    depth: u32,
+    chain: u32,
+    side: Side,
+) -> Result<u64, AllocError>
+    requires settled { Settled dump.now chain }
+    requires within { Within dump.now depth chain }
+    ensures { IfOk result (λ n. n ≡ min (literals_in (flat_list (tree side dump.now depth chain Hard))) (2 ^ 64 - 1)) }
+{
+    let start = Total { literals: 0 };
+    let mut states = Vec::new(alloc);
+    let _escapes = stream_from(
+        alloc,
+        dump,
+        side,
+        chain,
+        0,
+        depth,
+        Mode::Hard,
+        start,
+        &mut states,
+    )?;
+    let count = sum(states.as_slice());
+    Ok(count)
+}
