@@ -3,7 +3,7 @@ use Rattle.std.proofs.Common.{◌≡◌, ◌∙◌, ◌⊎◌, ◌↔◌, ◌≤
 use Rattle.fw_io.specs.Causes.{Rose}
 use Rattle.fffuu_run.specs.Filters.{IsLater, IsUpper}
 use Rattle.fffuu_run.specs.Requests.{Spells, name_of}
-use Rattle.fffuu_run.specs.Runs.{Ends, IsStatusOf, Outside, ReadsTooMuch, ReadsWhole, Settles, most}
+use Rattle.fffuu_run.specs.Runs.{Ends, IsStatus, IsStatusOf, Outside, ReadsTooMuch, ReadsWhole, Settles, most}
 use Rattle.fffuu_run.specs.declared.status.Status.{Status}
 use Rattle.fffuu_run.specs.declared.status.Status.TheVariants as status
 use Rattle.fffuu_run.proofs.Lines.{later_once, upper_or_later}
@@ -53,45 +53,65 @@ if_some : {A : Type 0} (o : Option A) (P : A → Type 0) → ((x : A) → o ≡ 
 if_some None P each = tt
 if_some (Some x) P each = each x refl
 
+status_is : (first s : Status) → Settles first s → IsStatus first s
+status_is first s settled = elim (stays first s settled) [ inl is ↦ inl is | inr memory ↦ inr (inr memory) ]
+
 decided : (words : List (List ℕ)) (old new : Outside) (first s : Status) → Ends words old new first → Settles first s
-    → (six : Bool) → Spells words six
-    → (Rose old.read_faults new.read_faults → ⊥) → (Rose old.write_faults new.write_faults → ⊥)
-    → (bytes : List ℕ) → old.left ≡ Some bytes → IsStatusOf six bytes s
-decided words old new status.Ok s (six', spelled, (text, out, whole, upper, held)) settled six spells read written bytes is =
+    → (six : Bool) → Spells words six → (bytes : List ℕ) → old.left ≡ Some bytes → IsStatusOf six bytes s
+decided words old new status.Ok s (six', spelled, (text, out, whole, upper, held)) settled six spells bytes is =
     let same : text ≡ bytes = whole_text old.left new.left bytes text is whole in
     let family : six' ≡ six = one_request words six' six spelled spells in
     record {
       too_long = λ long. absurd (omega (arith, whole.short, ap length same));
       later = λ short line later. absurd (upper_or_later six bytes out line (subst (λ (t : List ℕ). IsUpper six t out) same (subst (λ (b : Bool). IsUpper b text out) family upper)) later);
-      ok = λ short fits. stays status.Ok s settled;
+      ok = λ short fits. inl (status_is status.Ok s settled);
     }
-decided words old new status.Usage s (none, same) settled six spells read written bytes is = absurd (none six spells)
-decided words old new status.ReadFault s (six', spelled, (rose, kept)) settled six spells read written bytes is = absurd (read rose)
-decided words old new status.WriteFault s (six', spelled, (text, out, sent, rest, whole, upper, rose, part)) settled six spells read written bytes is = absurd (written rose)
-decided words old new status.InputTooLong s (six', spelled, (text, much, kept)) settled six spells read written bytes is = record {
-  too_long = λ long. stays status.InputTooLong s settled;
+decided words old new status.Usage s (none, same) settled six spells bytes is = absurd (none six spells)
+decided words old new status.ReadFault s (six', spelled, (rose, kept)) settled six spells bytes is =
+    let failed : IsStatus status.ReadFault s = status_is status.ReadFault s settled in
+    let read : (s ≡ status.ReadFault) ⊎ (s ≡ status.Memory) = elim failed [ inl a ↦ inl a | inr b ↦ b ] in
+    record { too_long = λ long. inr read; later = λ short line later. inr read; ok = λ short fits. inl (inr read) }
+decided words old new status.WriteFault s (six', spelled, (text, out, sent, rest, whole, upper, rose, part)) settled six spells bytes is =
+    let same : text ≡ bytes = whole_text old.left new.left bytes text is whole in
+    let family : six' ≡ six = one_request words six' six spelled spells in
+    record {
+      too_long = λ long. absurd (omega (arith, whole.short, ap length same));
+      later = λ short line later. absurd (upper_or_later six bytes out line (subst (λ (t : List ℕ). IsUpper six t out) same (subst (λ (b : Bool). IsUpper b text out) family upper)) later);
+      ok = λ short fits. elim (stays status.WriteFault s settled) [ inl a ↦ inr a | inr memory ↦ inl (inr (inr memory)) ];
+    }
+decided words old new status.InputTooLong s (six', spelled, (text, much, kept)) settled six spells bytes is = record {
+  too_long = λ long. status_is status.InputTooLong s settled;
   later = λ short line later. absurd (long_text old.left new.left bytes text is much short);
   ok = λ short fits. absurd (long_text old.left new.left bytes text is much short);
 }
-decided words old new (status.Later found) s (six', spelled, (text, whole, outside, kept)) settled six spells read written bytes is =
+decided words old new (status.Later found) s (six', spelled, (text, whole, outside, kept)) settled six spells bytes is =
     let same : text ≡ bytes = whole_text old.left new.left bytes text is whole in
     let family : six' ≡ six = one_request words six' six spelled spells in
     let here : IsLater six bytes found = subst (λ (t : List ℕ). IsLater six t found) same (subst (λ (b : Bool). IsLater b text found) family outside) in
     record {
       too_long = λ long. absurd (omega (arith, whole.short, ap length same));
-      later = λ short line later. subst (λ (n : ℕ). (s ≡ status.Later n) ⊎ (s ≡ status.Memory)) (later_once six bytes found line here later) (stays (status.Later found) s settled);
+      later = λ short line later. subst (λ (n : ℕ). IsStatus (status.Later n) s) (later_once six bytes found line here later) (status_is (status.Later found) s settled);
       ok = λ short fits. absurd (fits found here);
     }
-decided words old new status.Memory s e settled six spells read written bytes is =
+decided words old new status.Memory s e settled six spells bytes is =
     let memory : s ≡ status.Memory = elim (stays status.Memory s settled) [ inl same ↦ same | inr same ↦ same ] in
-    record { too_long = λ long. inr memory; later = λ short line later. inr memory; ok = λ short fits. inr memory }
+    record { too_long = λ long. inr (inr memory); later = λ short line later. inr (inr memory); ok = λ short fits. inl (inr (inr memory)) }
 
-pub complete : (words : List (List ℕ)) (old new : Outside) (first s : Status) → Ends words old new first → Settles first s
-    → (six : Bool) → Spells words six
-    → (Rose old.read_faults new.read_faults → ⊥) → (Rose old.write_faults new.write_faults → ⊥)
-    → IfSome old.left (λ text. IsStatusOf six text s)
-complete words old new first s e settled six spells read written =
-    if_some old.left (λ text. IsStatusOf six text s) (decided words old new first s e settled six spells read written)
+pub exact : (words : List (List ℕ)) (old new : Outside) (first s : Status) → Ends words old new first → Settles first s
+    → (six : Bool) → Spells words six → IfSome old.left (λ text. IsStatusOf six text s)
+exact words old new first s e settled six spells =
+    if_some old.left (λ text. IsStatusOf six text s) (decided words old new first s e settled six spells)
+
+read_rose : (words : List (List ℕ)) (old new : Outside) (first : Status) → Ends words old new first → first ≡ status.ReadFault → Rose old.read_faults new.read_faults
+read_rose words old new first e is = let ends = subst (Ends words old new) is e in (ends.2).0
+
+write_rose : (words : List (List ℕ)) (old new : Outside) (first : Status) → Ends words old new first → first ≡ status.WriteFault → Rose old.write_faults new.write_faults
+write_rose words old new first e is = let (six, spelled, (text, out, sent, rest, whole, upper, rose, part)) = subst (Ends words old new) is e in rose
+
+pub faults : (words : List (List ℕ)) (old new : Outside) (first s : Status) → Ends words old new first → Settles first s
+    → (s ≡ status.ReadFault → Rose old.read_faults new.read_faults) × (s ≡ status.WriteFault → Rose old.write_faults new.write_faults)
+faults words old new first s e (inl is) = (λ read. read_rose words old new first e (sym is ∙ read), λ written. write_rose words old new first e (sym is ∙ written))
+faults words old new first s e (inr (line, is, memory)) = (λ read. absurd (cc), λ written. absurd (cc))
 
 -- a status other than Usage has a request
 request_of : (words : List (List ℕ)) (old new : Outside) (first : Status) → Ends words old new first → (first ≡ status.Usage) ⊎ ((six : Bool) × Spells words six)

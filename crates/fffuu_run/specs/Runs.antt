@@ -60,16 +60,26 @@ Works six old new status.WriteFault = (text written sent rest : List ℕ) × Rea
     × AppendsPart old.held new.held written sent rest
 Works six old new status.Memory = KeepsSink old new
 
+-- the statuses with which something may have been written
+abbrev pub Writes : Status → Type 0
+Writes status.Ok = Unit {0}
+Writes status.WriteFault = Unit {0}
+Writes s = ⊥
+
 -- what a status says of a run
 abbrev pub Ends : List (List ℕ) → Outside → Outside → Status → Type 0
 Ends words old new status.Usage = ((six : Bool) → Spells words six → ⊥) × (new ≡ old)
 Ends words old new s = (six : Bool) × Spells words six × Works six old new s
 
--- The status where words ask for this family, this text is all that the source has, and nothing fails.
+-- the one status, or a read that failed, or want of memory
+abbrev pub IsStatus : Status → Status → Type 0
+IsStatus first s = (s ≡ first) ⊎ (s ≡ status.ReadFault) ⊎ (s ≡ status.Memory)
+
+-- The status where words ask for this family, and this text is all that the source has.
 pub record IsStatusOf (six : Bool) (text : List ℕ) (s : Status) : Type 0 where
-  pub too_long : most < length text → (s ≡ status.InputTooLong) ⊎ (s ≡ status.Memory)
-  pub later : length text ≤ most → (line : ℕ) → IsLater six text line → (s ≡ status.Later line) ⊎ (s ≡ status.Memory)
-  pub ok : length text ≤ most → ((line : ℕ) → IsLater six text line → ⊥) → (s ≡ status.Ok) ⊎ (s ≡ status.Memory)
+  pub too_long : most < length text → IsStatus status.InputTooLong s
+  pub later : length text ≤ most → (line : ℕ) → IsLater six text line → IsStatus (status.Later line) s
+  pub ok : length text ≤ most → ((line : ℕ) → IsLater six text line → ⊥) → IsStatus status.Ok s ⊎ (s ≡ status.WriteFault)
 
 -- the status, or want of memory in place of one whose line takes memory
 abbrev pub Settles : Status → Status → Type 0

@@ -2,7 +2,7 @@ ghost use Rattle.std.specs.Prelude.{◌≡◌, ◌↔◌, ℕ, List, Bool, IfSom
 ghost use Rattle.fw_io.specs.Causes.{Rose};
 ghost use Rattle.fffuu_run.specs.Lines.{line_of};
 ghost use Rattle.fffuu_run.specs.Requests.{Spells};
-ghost use Rattle.fffuu_run.specs.Runs.{Ends, IsStatusOf, Outside, Tells};
+ghost use Rattle.fffuu_run.specs.Runs.{Ends, IsStatusOf, Outside, Tells, Writes};
 
 use crate::Status;
 use crate::request::spell;
@@ -19,7 +19,9 @@ fn answered<S: Source, O: Sink>(
     source: &mut S,
     out: &mut O,
 ) -> Status
-    ensures { Ends (map string_bytes words.now.items)
+    ensures unread { result ≡ Status.Usage → source.new ≡ source.old }
+    ensures kept { (Writes result → ⊥) → out.new ≡ out.old }
+    ensures ends { Ends (map string_bytes words.now.items)
         (record { left = S.left source.old; read_faults = S.faults source.old; held = O.held out.old; write_faults = O.faults out.old })
         (record { left = S.left source.new; read_faults = S.faults source.new; held = O.held out.new; write_faults = O.faults out.new })
         result }
@@ -39,8 +41,8 @@ fn answered<S: Source, O: Sink>(
 /// - `Usage` exactly where the words spell no request. The source stays unread.
 /// - `ReadFault` only where the source's count of faults rose.
 /// - `InputTooLong` exactly where byte 16,777,217 came before the end. No more than that is taken.
-/// - `Later` exactly where that line is the first outside the form.
-/// - `WriteFault` only where the count of `out` rose. A front of the answer went out.
+/// - `Later` exactly where that line is the first outside the form; the number of lines plus one where more are wanted.
+/// - `WriteFault` only where the count of `out` rose. Less than the whole answer went out.
 ///
 /// `Memory` may stand in place of each but `Usage`. After a refusal other than `WriteFault` nothing went out.
 pub fn run<S: Source, O: Sink, E: Sink>(
@@ -55,6 +57,10 @@ pub fn run<S: Source, O: Sink, E: Sink>(
         (record { left = S.left source.new; read_faults = S.faults source.new; held = O.held out.new; write_faults = O.faults out.new })
         result }
 
+    // After Usage the source, and after each refusal but a failed write the sink, is the one that it was.
+    ensures unread { result ≡ Status.Usage → source.new ≡ source.old }
+    ensures kept { (Writes result → ⊥) → out.new ≡ out.old }
+
     // A front of the status's line stands on `err`, all of it where no write there failed.
     ensures told { (sent rest : List ℕ) × Tells (E.held err.old) (E.held err.new) (E.faults err.old) (E.faults err.new)
         (line_of result) sent rest }
@@ -62,11 +68,13 @@ pub fn run<S: Source, O: Sink, E: Sink>(
     // Exactly where the words spell no request.
     ensures usage { (result ≡ Status.Usage) ↔ ((six : Bool) → Spells (map string_bytes words.now.items) six → ⊥) }
 
-    // Where the words are right and no count rises, the text decides the status.
-    ensures complete { (six : Bool) → Spells (map string_bytes words.now.items) six
-        → (Rose (S.faults source.old) (S.faults source.new) → ⊥)
-        → (Rose (O.faults out.old) (O.faults out.new) → ⊥)
+    // Where the words are right and the source tells what it has, the text decides the status.
+    ensures exact { (six : Bool) → Spells (map string_bytes words.now.items) six
         → IfSome (S.left source.old) (λ text. IsStatusOf six text result) }
+
+    // A read or a write fails only where its count rises, so where none does the text alone decides, but for want of memory.
+    ensures faults { (result ≡ Status.ReadFault → Rose (S.faults source.old) (S.faults source.new))
+        × (result ≡ Status.WriteFault → Rose (O.faults out.old) (O.faults out.new)) }
 {
     let status = answered(alloc, words, source, out);
     report(alloc, status, err)
@@ -77,7 +85,7 @@ pub fn run_pure(alloc: Global, words: &Vec<String>, bytes: Bytes) -> Status
     ensures no_read_fault { result ≡ Status.ReadFault → ⊥ }
     ensures no_write_fault { result ≡ Status.WriteFault → ⊥ }
     ensures usage { (result ≡ Status.Usage) ↔ ((six : Bool) → Spells (map string_bytes words.now.items) six → ⊥) }
-    ensures complete { (six : Bool) → Spells (map string_bytes words.now.items) six → IsStatusOf six bytes result }
+    ensures exact { (six : Bool) → Spells (map string_bytes words.now.items) six → IsStatusOf six bytes result }
 {
     let mut source = PureSource::new(bytes);
     let mut out = PureSink::new();

@@ -1,5 +1,5 @@
 ghost use Rattle.std.specs.Prelude.{◌≡◌};
-ghost use Rattle.fffuu_run.specs.Runs.{Outside, Works};
+ghost use Rattle.fffuu_run.specs.Runs.{Outside, Works, Writes};
 
 use crate::Status;
 use crate::answering::answer;
@@ -11,7 +11,9 @@ use std::alloc::Global;
 
 // Reads all there is, and writes the answer to it and nothing else.
 pub fn work<S: Source, O: Sink>(alloc: Global, six: bool, source: &mut S, out: &mut O) -> Status
-    ensures { Works six
+    ensures used { result ≡ Status.Usage → ⊥ }
+    ensures kept { (Writes result → ⊥) → out.new ≡ out.old }
+    ensures works { Works six
         (record { left = S.left source.old; read_faults = S.faults source.old; held = O.held out.old; write_faults = O.faults out.old })
         (record { left = S.left source.new; read_faults = S.faults source.new; held = O.held out.new; write_faults = O.faults out.new })
         result }
