@@ -1,0 +1,10 @@
+-- In the order of reading.
+pub mod Lines
+pub mod ChainLines
+pub mod Groups
+pub mod Arguments
+pub mod Literals
+pub mod Targets
+pub mod RuleLines
+pub mod Tables
+pub mod Reads

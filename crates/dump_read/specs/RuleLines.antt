@@ -1,0 +1,32 @@
+-- Rule lines: `[counter] -A CHAIN`, groups, and perhaps a target.
+use Rattle.std.specs.Prelude.{ℕ, ◌≡◌, true, List, ◌∷◌, ◌++◌, None, codes}
+use Rattle.primitives.specs.declared.prim.Prim_.{Prim_}
+use Rattle.fw_rule.specs.declared.rule.Action.{Action}
+use Rattle.fw_rule.specs.declared.rule.Lit.{Lit}
+use Rattle.dump_read.specs.Lines.{Text, Word, bare}
+use Rattle.dump_read.specs.ChainLines.{IsMaybeCounter}
+use Rattle.dump_read.specs.Groups.{Group, AreGroups, all_differ, base_of}
+use Rattle.dump_read.specs.Literals.{AreLiterals}
+use Rattle.dump_read.specs.Targets.{IsTarget}
+
+-- what a rule line says
+pub record Spelled (W : ℕ) : Type 0 where
+  pub chain : Text
+  pub literals : List (Lit (Prim_ W))
+  pub action : Action
+
+module _ {W : ℕ} (Reads : Text → ℕ → Type 0) (names : List Text) where
+  -- the words of a line are this rule; `names` are the declared chains, in order
+  pub record IsRuleLine (words : List Word) (rule : Spelled W) : Type 0 where
+    pub counter : List Word
+    pub counted : IsMaybeCounter counter
+    pub chain : Word
+    pub chain_is : chain.text ≡ rule.chain
+    pub group_words : List Word
+    pub target : List Word
+    pub whole : words ≡ counter ++ (bare (codes "-A") ∷ chain ∷ (group_words ++ target))
+    pub groups : List Group
+    pub grouped : AreGroups None group_words groups
+    pub once : all_differ (base_of groups) ≡ true
+    pub literals : AreLiterals Reads groups groups rule.literals
+    pub targeted : IsTarget names target rule.action
