@@ -3,7 +3,7 @@ use Rattle.std.proofs.Common.{◌≡◌, ◌∙◌, ◌⊎◌, ◌↔◌, ◌≤
 use Rattle.fw_io.specs.Causes.{Rose}
 use Rattle.fffuu_run.specs.Filters.{IsLater, IsUpper}
 use Rattle.fffuu_run.specs.Requests.{Spells, name_of}
-use Rattle.fffuu_run.specs.Runs.{Ends, IsStatus, IsStatusOf, Outside, ReadsTooMuch, ReadsWhole, Settles, most}
+use Rattle.fffuu_run.specs.Runs.{Ends, IsStatus, IsStatusOf, Devices, ReadsTooMuch, ReadsWhole, IsReported, most}
 use Rattle.fffuu_run.specs.declared.status.Status.{Status}
 use Rattle.fffuu_run.specs.declared.status.Status.TheVariants as status
 use Rattle.fffuu_run.proofs.Lines.{later_once, upper_or_later}
@@ -45,7 +45,7 @@ one_request words x y (inl p) (inr (q, is)) = absurd (cc)
 one_request words x y (inr (p, is)) (inl q) = absurd (cc)
 one_request words x y (inr (p, is)) (inr (q, same)) = cc
 
-stays : (first s : Status) → Settles first s → (s ≡ first) ⊎ (s ≡ status.Memory)
+stays : (first s : Status) → IsReported first s → (s ≡ first) ⊎ (s ≡ status.Memory)
 stays first s (inl is) = inl is
 stays first s (inr (line, is, memory)) = inr memory
 
@@ -53,10 +53,10 @@ if_some : {A : Type 0} (o : Option A) (P : A → Type 0) → ((x : A) → o ≡ 
 if_some None P each = tt
 if_some (Some x) P each = each x refl
 
-status_is : (first s : Status) → Settles first s → IsStatus first s
+status_is : (first s : Status) → IsReported first s → IsStatus first s
 status_is first s settled = elim (stays first s settled) [ inl is ↦ inl is | inr memory ↦ inr (inr memory) ]
 
-decided : (words : List (List ℕ)) (old new : Outside) (first s : Status) → Ends words old new first → Settles first s
+decided : (words : List (List ℕ)) (old new : Devices) (first s : Status) → Ends words old new first → IsReported first s
     → (six : Bool) → Spells words six → (bytes : List ℕ) → old.left ≡ Some bytes → IsStatusOf six bytes s
 decided words old new status.Ok s (six', spelled, (text, out, whole, upper, held)) settled six spells bytes is =
     let same : text ≡ bytes = whole_text old.left new.left bytes text is whole in
@@ -97,24 +97,24 @@ decided words old new status.Memory s e settled six spells bytes is =
     let memory : s ≡ status.Memory = elim (stays status.Memory s settled) [ inl same ↦ same | inr same ↦ same ] in
     record { too_long = λ long. inr (inr memory); later = λ short line later. inr (inr memory); ok = λ short fits. inl (inr (inr memory)) }
 
-pub exact : (words : List (List ℕ)) (old new : Outside) (first s : Status) → Ends words old new first → Settles first s
+pub exact : (words : List (List ℕ)) (old new : Devices) (first s : Status) → Ends words old new first → IsReported first s
     → (six : Bool) → Spells words six → IfSome old.left (λ text. IsStatusOf six text s)
 exact words old new first s e settled six spells =
     if_some old.left (λ text. IsStatusOf six text s) (decided words old new first s e settled six spells)
 
-read_rose : (words : List (List ℕ)) (old new : Outside) (first : Status) → Ends words old new first → first ≡ status.ReadFault → Rose old.read_faults new.read_faults
+read_rose : (words : List (List ℕ)) (old new : Devices) (first : Status) → Ends words old new first → first ≡ status.ReadFault → Rose old.read_faults new.read_faults
 read_rose words old new first e is = let ends = subst (Ends words old new) is e in (ends.2).0
 
-write_rose : (words : List (List ℕ)) (old new : Outside) (first : Status) → Ends words old new first → first ≡ status.WriteFault → Rose old.write_faults new.write_faults
+write_rose : (words : List (List ℕ)) (old new : Devices) (first : Status) → Ends words old new first → first ≡ status.WriteFault → Rose old.write_faults new.write_faults
 write_rose words old new first e is = let (six, spelled, (text, out, sent, rest, whole, upper, rose, part)) = subst (Ends words old new) is e in rose
 
-pub faults : (words : List (List ℕ)) (old new : Outside) (first s : Status) → Ends words old new first → Settles first s
+pub faults : (words : List (List ℕ)) (old new : Devices) (first s : Status) → Ends words old new first → IsReported first s
     → (s ≡ status.ReadFault → Rose old.read_faults new.read_faults) × (s ≡ status.WriteFault → Rose old.write_faults new.write_faults)
 faults words old new first s e (inl is) = (λ read. read_rose words old new first e (sym is ∙ read), λ written. write_rose words old new first e (sym is ∙ written))
 faults words old new first s e (inr (line, is, memory)) = (λ read. absurd (cc), λ written. absurd (cc))
 
 -- a status other than Usage has a request
-request_of : (words : List (List ℕ)) (old new : Outside) (first : Status) → Ends words old new first → (first ≡ status.Usage) ⊎ ((six : Bool) × Spells words six)
+request_of : (words : List (List ℕ)) (old new : Devices) (first : Status) → Ends words old new first → (first ≡ status.Usage) ⊎ ((six : Bool) × Spells words six)
 request_of words old new status.Ok (six, spelled, e) = inr (six, spelled)
 request_of words old new status.Usage e = inl refl
 request_of words old new status.ReadFault (six, spelled, e) = inr (six, spelled)
@@ -123,10 +123,10 @@ request_of words old new status.InputTooLong (six, spelled, e) = inr (six, spell
 request_of words old new (status.Later line) (six, spelled, e) = inr (six, spelled)
 request_of words old new status.Memory (six, spelled, e) = inr (six, spelled)
 
-usage_means : (words : List (List ℕ)) (old new : Outside) (first : Status) → Ends words old new first → first ≡ status.Usage → (six : Bool) → Spells words six → ⊥
+usage_means : (words : List (List ℕ)) (old new : Devices) (first : Status) → Ends words old new first → first ≡ status.Usage → (six : Bool) → Spells words six → ⊥
 usage_means words old new first e is = (subst (Ends words old new) is e).0
 
-pub usage : (words : List (List ℕ)) (old new : Outside) (first s : Status) → Ends words old new first → Settles first s
+pub usage : (words : List (List ℕ)) (old new : Devices) (first s : Status) → Ends words old new first → IsReported first s
     → (s ≡ status.Usage) ↔ ((six : Bool) → Spells words six → ⊥)
 usage words old new first s e (inl is) = (
   λ used. usage_means words old new first e (sym is ∙ used),

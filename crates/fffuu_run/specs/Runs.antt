@@ -11,8 +11,8 @@ use Rattle.fffuu_run.specs.declared.status.Status.TheVariants as status
 abbrev pub most : ℕ
 most = 16777216
 
--- the source and the sink at one moment
-pub record Outside : Type 0 where
+-- what the source and the sink tell at one moment
+pub record Devices : Type 0 where
   pub left : Option (List ℕ)
   pub read_faults : ℕ
   pub held : Option (List ℕ)
@@ -29,8 +29,8 @@ pub record ReadsTooMuch (old new : Option (List ℕ)) (text : List ℕ) : Type 0
   pub taken : Consumes old new text
   pub long : length text ≡ most + 1
 
--- the sink is as before
-pub record KeepsSink (old new : Outside) : Type 0 where
+-- the sink holds what it held, and no fault came
+pub record KeepsSink (old new : Devices) : Type 0 where
   pub held : new.held ≡ old.held
   pub faults : new.write_faults ≡ old.write_faults
 
@@ -41,13 +41,13 @@ pub record AppendsPart (old new : Option (List ℕ)) (text sent rest : List ℕ)
   pub proper : 0 < length rest
 
 -- a front of the line was written, all of it where no write failed
-pub record Tells (old new : Option (List ℕ)) (before now : ℕ) (line sent rest : List ℕ) : Type 0 where
+pub record WritesLine (old new : Option (List ℕ)) (before now : ℕ) (line sent rest : List ℕ) : Type 0 where
   pub sent_is : Appends old new sent
   pub split : line ≡ sent ++ rest
   pub whole : (Rose before now → ⊥) → rest ≡ []
 
 -- what a status says of a run whose words ask for this family
-abbrev pub Works : Bool → Outside → Outside → Status → Type 0
+abbrev pub Works : Bool → Devices → Devices → Status → Type 0
 Works six old new status.Ok = (text written : List ℕ) × ReadsWhole old.left new.left text
     × IsUpper six text written × Appends old.held new.held written
 Works six old new status.Usage = ⊥
@@ -67,7 +67,7 @@ Writes status.WriteFault = Unit {0}
 Writes s = ⊥
 
 -- what a status says of a run
-abbrev pub Ends : List (List ℕ) → Outside → Outside → Status → Type 0
+abbrev pub Ends : List (List ℕ) → Devices → Devices → Status → Type 0
 Ends words old new status.Usage = ((six : Bool) → Spells words six → ⊥) × (new ≡ old)
 Ends words old new s = (six : Bool) × Spells words six × Works six old new s
 
@@ -82,5 +82,5 @@ pub record IsStatusOf (six : Bool) (text : List ℕ) (s : Status) : Type 0 where
   pub ok : length text ≤ most → ((line : ℕ) → IsLater six text line → ⊥) → IsStatus status.Ok s ⊎ (s ≡ status.WriteFault)
 
 -- the status, or want of memory in place of one whose line takes memory
-abbrev pub Settles : Status → Status → Type 0
-Settles first s = (s ≡ first) ⊎ ((line : ℕ) × (first ≡ status.Later line) × (s ≡ status.Memory))
+abbrev pub IsReported : Status → Status → Type 0
+IsReported first s = (s ≡ first) ⊎ ((line : ℕ) × (first ≡ status.Later line) × (s ≡ status.Memory))

@@ -1,6 +1,6 @@
 ghost use Rattle.std.specs.Prelude.{◌≡◌, ℕ, List, IfOk, OnErr};
 ghost use Rattle.fffuu_run.specs.Lines.{line_of, text_of};
-ghost use Rattle.fffuu_run.specs.Runs.{Settles, Tells};
+ghost use Rattle.fffuu_run.specs.Runs.{IsReported, WritesLine};
 
 use crate::Status;
 use crate::writing::write_all;
@@ -50,7 +50,7 @@ fn line_for(alloc: Global, status: &Status) -> Result<Line, AllocError>
 
 // Writes a line. A sink that refuses it changes nothing else.
 fn tell<E: Sink>(line: &[u8], err: &mut E)
-    ensures { (sent rest : List ℕ) × Tells (E.held err.old) (E.held err.new) (E.faults err.old) (E.faults err.new)
+    ensures { (sent rest : List ℕ) × WritesLine (E.held err.old) (E.held err.new) (E.faults err.old) (E.faults err.new)
         line.now sent rest }
 {
     let _ = write_all(err, line);
@@ -58,8 +58,8 @@ fn tell<E: Sink>(line: &[u8], err: &mut E)
 
 // Writes the line of the status on `err`. Where the line finds no memory, that is the status.
 pub fn report<E: Sink>(alloc: Global, status: Status, err: &mut E) -> Status
-    ensures settled { Settles status result }
-    ensures told { (sent rest : List ℕ) × Tells (E.held err.old) (E.held err.new) (E.faults err.old) (E.faults err.new)
+    ensures settled { IsReported status result }
+    ensures told { (sent rest : List ℕ) × WritesLine (E.held err.old) (E.held err.new) (E.faults err.old) (E.faults err.new)
         (line_of result) sent rest }
 {
     match line_for(alloc, &status) {

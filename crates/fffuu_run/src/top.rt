@@ -2,7 +2,7 @@ ghost use Rattle.std.specs.Prelude.{◌≡◌, ◌↔◌, ℕ, List, Bool, IfSom
 ghost use Rattle.fw_io.specs.Causes.{Rose};
 ghost use Rattle.fffuu_run.specs.Lines.{line_of};
 ghost use Rattle.fffuu_run.specs.Requests.{Spells};
-ghost use Rattle.fffuu_run.specs.Runs.{Ends, IsStatusOf, Outside, Tells, Writes};
+ghost use Rattle.fffuu_run.specs.Runs.{Ends, IsStatusOf, Devices, WritesLine, Writes};
 
 use crate::Status;
 use crate::request::spell;
@@ -62,7 +62,7 @@ pub fn run<S: Source, O: Sink, E: Sink>(
     ensures kept { (Writes result → ⊥) → out.new ≡ out.old }
 
     // A front of the status's line stands on `err`, all of it where no write there failed.
-    ensures told { (sent rest : List ℕ) × Tells (E.held err.old) (E.held err.new) (E.faults err.old) (E.faults err.new)
+    ensures told { (sent rest : List ℕ) × WritesLine (E.held err.old) (E.held err.new) (E.faults err.old) (E.faults err.new)
         (line_of result) sent rest }
 
     // Exactly where the words spell no request.

@@ -1,5 +1,5 @@
 ghost use Rattle.std.specs.Prelude.{◌≡◌};
-ghost use Rattle.fffuu_run.specs.Runs.{Outside, Works, Writes};
+ghost use Rattle.fffuu_run.specs.Runs.{Devices, Works, Writes};
 
 use crate::Status;
 use crate::answering::answer;

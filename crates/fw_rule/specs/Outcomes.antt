@@ -61,6 +61,6 @@ abbrev pub outcome_of : Outcome → Option Verdict → List Frame → Option Sta
 outcome_of (Some v) policy frames = Some (Ended v)
 outcome_of None policy frames = back policy frames
 
--- from this place on the walk comes to the outcome, whatever the frames
+-- from there on the walk comes to the outcome, whatever the frames
 abbrev pub ComesTo : {P Packet : Type 0} → (P → Packet → Bool) → Dump P → Packet → Meaning → ℕ → ℕ → Path → Option Verdict → Outcome → Type 0
 ComesTo holds dump p m chain next path policy o = (frames : List Frame) → (k : ℕ) × (after holds dump p m k (At chain next path frames) ≡ outcome_of o policy frames)

@@ -234,3 +234,24 @@ fn what_does_not_fit(rt: HostRuntime) -> Result<(), Fail> {
     assert!(rt; !fits(&dump, 0), "a loop");
     Ok(())
 }
+
+#[test]
+fn two_unknown_literals_of_a_rule_two_calls_down(rt: HostRuntime) -> Result<(), Fail> {
+    let alloc = rt.alloc();
+    let lits = vec![in alloc; unknown(alloc), unknown(alloc)]?;
+    let last = Chain {
+        name: Bytes::of(b"D".to_vec(alloc)?),
+        policy: None,
+        rules: List::of(vec![in alloc; rule(lits, Action::Accept)]?),
+    };
+    let asked = vec![in alloc; plain(alloc, Action::Call(1))]?;
+    let called = vec![in alloc; plain(alloc, Action::Call(2))]?;
+    let two = dump(alloc, Verdict::Drop, asked, called)?;
+    let mut chains = two.chains.into_vec();
+    chains.push(last)?;
+    let three = Dump {
+        chains: List::of(chains),
+    };
+    assert_eq!(rt; answer(&rt, alloc, &three, 10)?, MAY);
+    Ok(())
+}
