@@ -52,7 +52,7 @@ module _ {P : Type 0} (side : Side) (h : P → Bool) where
       ∙ ap (λ (d : Bool). if eval_of h (known_of rule) then best_row best_callee (best_rules side h best_callee rules) d (kind side rule.action) else best_rules side h best_callee rules) (sym one.0)
 
   -- a rule of the chain's list stands in the chain
-  stands : (dump : Dump P) (c : ℕ) (o : Option (Chain P)) → slice_get dump.chains c ≡ o → (i : ℕ) (rule : Rule P) → slice_get (rules_at o) i ≡ Some rule → RuleOf dump c rule
+  pub stands : (dump : Dump P) (c : ℕ) (o : Option (Chain P)) → slice_get dump.chains c ≡ o → (i : ℕ) (rule : Rule P) → slice_get (rules_at o) i ≡ Some rule → RuleOf dump c rule
   stands dump c None q i rule e = cc
   stands dump c (Some here) q i rule e = (here, q, contains_at here.rules i rule e)
 

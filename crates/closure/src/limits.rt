@@ -6,6 +6,7 @@ ghost use Rattle.closure.specs.Rewriting.{tree};
 ghost use Rattle.closure.specs.Flat.{flat_list};
 ghost use Rattle.closure.specs.Limits.{IsSmall, Passes};
 ghost use Rattle.closure.specs.Sides.{ClosesTo};
+ghost use Rattle.closure.specs.Sources.{AreKnown};
 ghost use Rattle.closure.specs.declared.limits.FlatFault.TheVariants.{Memory};
 ghost use Rattle.closure.specs.declared.modes.Mode.TheVariants.{Hard};
 
@@ -41,6 +42,7 @@ impl From<AllocError> for FlatFault {
 }
 
 /// The flat list of a chain: read by first match, with the chain's policy at its end, it accepts exactly what may (Upper) or must (Lower) be accepted.
+/// Each primitive in it stands in a known literal of a rule of a reachable chain.
 ///
 /// No call path from the chain has more than `depth` chains. `Nodes` comes exactly where the tree has more than 262,144 items, and `Literals` exactly where it hasn't and the list has more
 /// than 4,194,304 literals. Both are counted before the list is built.
@@ -56,6 +58,7 @@ pub fn flat<P: Primitive>(
     ensures is { IfOk result (λ rules. rules ≡ flat_list (tree side dump.now depth chain Hard)) }
     ensures small { OnOk result (IsSmall (tree side dump.now depth chain Hard)) }
     ensures refused { IfErr result (λ fault. Passes (tree side dump.now depth chain Hard) fault) }
+    ensures sources { IfOk result (λ rules. AreKnown dump.now chain rules) }
     ensures closes { IfOk result (λ rules. (here : Chain P) (policy : Verdict) → slice_get dump.now.chains chain ≡ Some here → here.policy ≡ Some policy → ClosesTo P.meaning side dump.now chain policy rules) }
 {
     if count_nodes(alloc, dump, depth, chain, side)? > 262_144 {
