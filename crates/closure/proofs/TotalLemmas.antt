@@ -8,10 +8,10 @@ use Rattle.match_expr.specs.declared.expr.FlatRule.{FlatRule}
 use Rattle.closure.specs.declared.totals.Total.{Total}
 use Rattle.closure.specs.Rewriting.{Tree}
 use Rattle.closure.specs.Flat.{flat_list, literals_in}
-use Rattle.closure.specs.Stream.{cut_all, stream}
+use Rattle.closure.specs.Stream.{cut_all, cut_out, stream}
 use Rattle.closure.specs.Counts.{capped}
 use Rattle.closure.specs.Totals.{with_literals, total_of}
-use Rattle.closure.proofs.Streams.{cut_out, stream_is}
+use Rattle.closure.proofs.Streams.{stream_is}
 
 abbrev counted : ℕ → Total
 counted n = record { literals = capped n }

@@ -49,6 +49,7 @@ best_row callee rest false (CallTo c) = then_rest (callee c) rest
 best_row callee rest true (CallTo c) = or_rest (callee c) rest
 
 module _ {P : Type 0} (side : Side) (h : P → Bool) where
+  -- the best that a list of rules can come to, where `callee` has the best of chains
   abbrev pub best_rules : (ℕ → Outcome) → List (Rule P) → Outcome
   best_rules callee [] = Ends
   best_rules callee (rule ∷ rules) =
@@ -63,17 +64,21 @@ module _ {P : Type 0} (side : Side) (h : P → Bool) where
 abbrev pub Truth : Type 0
 Truth = List Step → ℕ → Bool
 
+-- the same truth, seen from below a call
 abbrev pub under : Step → Truth → Truth
 under s t = λ (steps : List Step) (l : ℕ). t (s ∷ steps) l
 
+-- the step at the rule of this number
 abbrev pub step_of : ℕ → ℕ → Step
 step_of c n = record { chain = c; rule = n }
 
 module _ {P : Type 0} (h : P → Bool) where
+  -- whether a literal holds at the path and number
   abbrev pub lit_holds : Truth → List Step → ℕ → Lit P → Bool
   lit_holds t steps l (Lit.Known neg e) = if neg then not (eval_of h e) else eval_of h e
   lit_holds t steps l (Lit.Unknown text) = t steps l
 
+  -- whether the literals hold, the first of them with the number `l`
   abbrev pub lits_hold : Truth → List Step → ℕ → List (Lit P) → Bool
   lits_hold t steps l [] = true
   lits_hold t steps l (lit ∷ lits) = lit_holds t steps l lit && lits_hold t steps (l + 1) lits
@@ -87,6 +92,7 @@ module _ {P : Type 0} (side : Side) (h : P → Bool) where
       then best_row (λ k. callee k (under (step_of c n) t)) (walked_rules callee c (n + 1) t rules) false (kind side rule.action)
       else walked_rules callee c (n + 1) t rules
 
+  -- what the walk of a chain comes to
   abbrev pub walked : Dump P → ℕ → ℕ → Truth → Outcome
   walked dump zero c t = Ends
   walked dump (suc depth) c t = walked_rules (walked dump depth) c 0 t (rules_of dump c)

@@ -26,6 +26,7 @@ pub data Ran : Type 0 where
   Leaves : ℕ → Ran
   Through : Ran
 
+-- what a block and the rest behind it come to
 abbrev pub after_block : Ran → Ran → Ran
 after_block (Says v) rest = Says v
 after_block (Leaves zero) rest = rest
@@ -46,7 +47,7 @@ nodes (Decide e v rest) = suc (nodes rest)
 nodes (Leave e n rest) = suc (nodes rest)
 nodes (Block e inner rest) = suc (nodes inner + nodes rest)
 
--- an unsupported target does nothing here; a settled dump has none
+-- what an action is to a side. An unsupported target does nothing here; a settled dump has none
 abbrev pub kind : Side → Action → Kind
 kind Side.Upper Action.Accept = GoodVerdict
 kind Side.Upper Action.Drop = BadVerdict
@@ -57,15 +58,19 @@ kind side Action.Back = GoBack
 kind side (Action.Call k) = CallTo k
 kind side (Action.Other name) = GoOn
 
+-- the verdict that a side wants: whether it accepts
 abbrev pub good : Side → Bool
 good Side.Upper = true
 good Side.Lower = false
 
+-- the other verdict
 abbrev pub bad : Side → Bool
 bad Side.Upper = false
 bad Side.Lower = true
 
--- the items of one rule and of the rest: a line of the table each, `k` its known literals and `d` whether it is doubtful
+-- the items of one rule and of the rest: `k` its known literals, `d` whether it is doubtful. In Hard a bad verdict is a verdict; in Soft j it leaves its block and j enclosing ones more.
+-- A doubtful bad verdict never helps, so it is left out. A doubtful return may save from a bad verdict further down, so the rest is tried with bad verdicts that leave the block, and then once
+-- more behind it. A doubtful call may be passed over, so a bad verdict in it leaves its block alone. A sure call in Soft j is one block deeper.
 abbrev pub row : {P : Type 0} → Side → (ℕ → Mode → Tree P) → Expr P → (Mode → Tree P) → Bool → Kind → Mode → Tree P
 row side callee k rest d GoodVerdict mode = Decide k (good side) (rest mode)
 row side callee k rest false BadVerdict Hard = Decide k (bad side) (rest Hard)
@@ -79,15 +84,18 @@ row side callee k rest false (CallTo c) Hard = Block k (callee c Hard) (rest Har
 row side callee k rest false (CallTo c) (Soft j) = Block k (callee c (Soft (suc j))) (rest (Soft j))
 row side callee k rest true (CallTo c) mode = Block k (callee c (Soft 0)) (rest mode)
 
+-- the items of a list of rules in a mode, where `callee` has the items of chains
 abbrev pub items : {P : Type 0} → Side → (ℕ → Mode → Tree P) → List (Rule P) → Mode → Tree P
 items side callee [] mode = Done
 items side callee (rule ∷ rules) mode =
     row side callee (known_of rule) (λ (m : Mode). items side callee rules m) (doubt_in rule.lits) (kind side rule.action) mode
 
+-- a chain's rules; none where there is no chain
 abbrev pub rules_at : {P : Type 0} → Option (Chain P) → List (Rule P)
 rules_at None = []
 rules_at (Some here) = here.rules
 
+-- the rules of the chain of this number
 abbrev pub rules_of : {P : Type 0} → Dump P → ℕ → List (Rule P)
 rules_of dump c = rules_at (slice_get dump.chains c)
 

@@ -9,6 +9,7 @@ use Rattle.fw_rule.specs.Walk.{May, Must, RuleOf, Reaches}
 use Rattle.closure.specs.declared.sides.Side.{Side}
 use Rattle.fw_rule.specs.Matching.{doubt_in}
 
+-- whether a verdict accepts
 abbrev pub is_accept : Verdict → Bool
 is_accept Verdict.Accept = true
 is_accept Verdict.Drop = false

@@ -5,10 +5,10 @@ ghost use Rattle.closure.specs.Flat.{flat_list};
 ghost use Rattle.closure.specs.Parts.{rule_of_parts};
 ghost use Rattle.closure.specs.declared.modes.Mode.TheVariants.{Hard};
 
-use crate::modes::{Mode, Parts};
+use crate::modes::Parts;
 use crate::parts::behind;
 use crate::sides::Side;
-use crate::streaming::{State, stream_from};
+use crate::streaming::{State, states_of};
 use fw_rule::Dump;
 use match_expr::{Expr, FlatRule, Items, List, Primitive};
 use std::alloc::{AllocError, Global};
@@ -58,18 +58,7 @@ pub fn flat_rules<P: Primitive>(
     let start = Parts {
         parts: List::of(Vec::new(alloc)),
     };
-    let mut states = Vec::new(alloc);
-    let _escapes = stream_from(
-        alloc,
-        dump,
-        side,
-        chain,
-        0,
-        depth,
-        Mode::Hard,
-        start,
-        &mut states,
-    )?;
+    let states = states_of(alloc, dump, depth, chain, side, start)?;
     let rules = rules_of_parts(alloc, states)?;
     Ok(List::of(rules))
 }

@@ -1,11 +1,12 @@
-ghost use Rattle.std.specs.Prelude.{◌≡◌, ◌++◌, ◌<◌, ◌+◌, ◌-◌, ◌^◌, [], drop, IfOk, OnOk, Bool};
+ghost use Rattle.std.specs.Prelude.{◌≡◌, ◌++◌, ◌<◌, ◌+◌, ◌-◌, ◌^◌, [], drop, IfOk, OnOk, Bool, map};
 ghost use Rattle.match_expr.specs.declared.expr.Expr.{Expr as Tested};
 ghost use Rattle.match_expr.specs.declared.expr.Expr.TheVariants.{Not};
-ghost use Rattle.fw_rule.specs.Walk.{InSettled, Within};
+ghost use Rattle.fw_rule.specs.Walk.{InSettled, Settled, Within};
+ghost use Rattle.closure.specs.declared.modes.Mode.TheVariants.{Hard};
 ghost use Rattle.closure.specs.Rewriting.{items, tree, rules_of};
 ghost use Rattle.closure.specs.Rows.{level};
-ghost use Rattle.closure.specs.Flat.{escapes, stayed, carried};
-ghost use Rattle.closure.specs.Stream.{stream, cut_all};
+ghost use Rattle.closure.specs.Flat.{escapes, flat_list, stayed, carried};
+ghost use Rattle.closure.specs.Stream.{stream, cut_all, cut_out, IsCutByParts};
 
 use crate::modes::{Escape, Mode, Row};
 use crate::parts::kind_of;
@@ -139,4 +140,35 @@ pub fn stream_from<P: Primitive, S: State<P>>(
         }
     }
     Ok(found)
+}
+
+/// The states of a chain's flat rules, in order, with their verdicts. The rules aren't built.
+///
+/// Where an `All` cuts the first state as its parts do in turn, these are the states that the flat rules' expressions cut out of it.
+pub fn states_of<P: Primitive, S: State<P>>(
+    alloc: Global,
+    dump: &Dump<P>,
+    depth: u32,
+    chain: u32,
+    side: Side,
+    start: S,
+) -> Result<Vec<(S, bool)>, AllocError>
+    requires settled { Settled dump.now chain }
+    requires within { Within dump.now depth chain }
+    ensures tree { IfOk result (λ states. states.items ≡ stream S.left start (tree side dump.now depth chain Hard)) }
+    ensures list { IfOk result (λ states. IsCutByParts S.left start → states.items ≡ map (cut_out S.left start) (flat_list (tree side dump.now depth chain Hard))) }
+{
+    let mut states = Vec::new(alloc);
+    let _escapes = stream_from(
+        alloc,
+        dump,
+        side,
+        chain,
+        0,
+        depth,
+        Mode::Hard,
+        start,
+        &mut states,
+    )?;
+    Ok(states)
 }

@@ -6,9 +6,8 @@ ghost use Rattle.closure.specs.Rewriting.{tree};
 ghost use Rattle.closure.specs.Flat.{flat_list, literals_in};
 ghost use Rattle.closure.specs.declared.modes.Mode.TheVariants.{Hard};
 
-use crate::modes::Mode;
 use crate::sides::Side;
-use crate::streaming::{State, stream_from};
+use crate::streaming::{State, states_of};
 use fw_rule::Dump;
 use match_expr::{Expr, Primitive};
 use std::alloc::{AllocError, Global};
@@ -58,18 +57,7 @@ pub fn count_literals<P: Primitive>(
     ensures { IfOk result (λ n. n ≡ min (literals_in (flat_list (tree side dump.now depth chain Hard))) (2 ^ 64 - 1)) }
 {
     let start = Total { literals: 0 };
-    let mut states = Vec::new(alloc);
-    let _escapes = stream_from(
-        alloc,
-        dump,
-        side,
-        chain,
-        0,
-        depth,
-        Mode::Hard,
-        start,
-        &mut states,
-    )?;
+    let states = states_of(alloc, dump, depth, chain, side, start)?;
     let count = sum(states.as_slice());
     Ok(count)
 }
