@@ -1,0 +1,5 @@
+-- In the order of reading.
+pub mod Paths
+pub mod Visits
+pub mod Faults
+pub mod Marks

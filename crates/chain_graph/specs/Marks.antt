@@ -1,0 +1,34 @@
+-- Marks on chains, and a list of marked chains whose own calls are still to be followed.
+use Rattle.std.specs.Prelude.{ℕ, ◌+◌, ◌≤◌, ◌≡◌, ◌⊎◌, Bool, true, false, not, List, length, Some, slice_get, get_or, Contains}
+use Rattle.std.specs.List.{count_by}
+use Rattle.fw_rule.specs.declared.rule.Action.{Action}
+use Rattle.fw_rule.specs.declared.rule.Rule.{Rule}
+use Rattle.fw_rule.specs.declared.rule.Chain.{Chain}
+use Rattle.fw_rule.specs.declared.rule.Dump.{Dump}
+
+-- the chain is marked
+abbrev pub IsMarked : List Bool → ℕ → Type 0
+IsMarked marks c = get_or marks c false ≡ true
+
+-- the marks are on the chains of this kind alone, and on each of them
+abbrev pub MarksAre : (ℕ → Type 0) → List Bool → Type 0
+MarksAre Kind marks = (c : ℕ) → (IsMarked marks c → Kind c) × (Kind c → IsMarked marks c)
+
+-- all chains of this kind have become marked, and those that became so now were put on the list
+pub record Spread (Kind : ℕ → Type 0) (marks : List Bool) (todo : List ℕ) (marks' : List Bool) (todo' : List ℕ) : Type 0 where
+  pub long : length marks' ≡ length marks
+  pub kept : (c : ℕ) → IsMarked marks c → IsMarked marks' c
+  pub stays : (c : ℕ) → Contains todo c → Contains todo' c
+  pub new : (c : ℕ) → IsMarked marks' c → IsMarked marks c ⊎ (Kind c × Contains todo' c)
+  pub put : (c : ℕ) → Contains todo' c → Contains todo c ⊎ Kind c
+  pub all : (c : ℕ) → Kind c → IsMarked marks' c
+  pub fewer : count_by not marks' + length todo' ≤ count_by not marks + length todo
+
+module _ {P : Type 0} where
+  -- one of these rules calls the chain
+  abbrev pub IsCalled : List (Rule P) → ℕ → Type 0
+  IsCalled rules c = (rule : Rule P) × Contains rules rule × (rule.action ≡ Action.Call c)
+
+  -- these are the chain's rules
+  abbrev pub AreRulesOf : Dump P → ℕ → List (Rule P) → Type 0
+  AreRulesOf dump c rules = (here : Chain P) × (slice_get dump.chains c ≡ Some here) × (rules ≡ here.rules)

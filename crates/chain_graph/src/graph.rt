@@ -1,0 +1,42 @@
+ghost use Rattle.std.specs.Prelude.{◌≡◌};
+ghost use Rattle.chain_graph.specs.declared.graph.GraphFault.TheVariants.{Memory};
+
+use match_expr::{Bytes, List};
+use std::alloc::AllocError;
+use thiserror::Error;
+
+/// What is known of a chain whose calls end.
+#[derive(Debug, Drop)]
+pub struct Ranked {
+    /// The asked chain.
+    pub entry: u32,
+    /// For each chain in order the number of chains on the longest call path that begins there, at most 256. None where the asked chain doesn't reach it.
+    pub ranks: List<Option<u32>>,
+    /// The asked chain's rules, and with each call the rules that the called chain comes to. The sum stops at 2^64 - 1.
+    pub visits: u64,
+}
+
+/// Why a chain can't be ranked.
+#[derive(Debug, Drop, Error)]
+pub enum GraphFault {
+    /// The least line of a rule in reach whose target isn't supported, and the target's name.
+    #[error("line {line}: a target isn't supported")]
+    Unsupported { line: u32, name: Bytes },
+    /// No target in reach is unsupported, and this is the first declared chain in reach that calls itself over some path.
+    #[error("chain {chain} calls itself")]
+    Loop { chain: u32 },
+    /// Neither stands, and a call path from the chain has 257 chains.
+    #[error("a call path is too long")]
+    Depth,
+    /// Memory ran out.
+    #[error("out of memory")]
+    Memory,
+}
+
+impl From<AllocError> for GraphFault {
+    ghost from_gives = { λ _ e. e ≡ Memory };
+
+    fn from(_: AllocError) -> Self {
+        GraphFault::Memory
+    }
+}

@@ -1,0 +1,8 @@
+//! The call graph of a dump: which chains a chain reaches, and whether its calls end.
+#![tactic(auto)]
+
+mod graph;
+mod reach;
+
+pub use graph::{GraphFault, Ranked};
+pub use reach::{reachable, reached_by_call};
