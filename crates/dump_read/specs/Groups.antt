@@ -1,5 +1,5 @@
 -- The groups of a rule line, as a division of its words.
-use Rattle.std.specs.Prelude.{ℕ, ◌≡◌, ◌≤◌, Bool, true, false, not, ◌&&◌, ◌||◌, nat_eq, List, [], ◌∷◌, ◌++◌, length, Option, Some, None, codes, if◌then◌else◌}
+use Rattle.std.specs.Prelude.{ℕ, ◌≡◌, ◌⊎◌, ◌≤◌, Bool, true, false, not, ◌&&◌, ◌||◌, nat_eq, List, [], ◌∷◌, ◌++◌, length, Option, Some, None, codes, if◌then◌else◌}
 use Rattle.std.specs.List.{AllByRecursion, starts_with, list_any}
 use Rattle.std.specs.Str.{bytes_eq}
 use Rattle.opt_table.specs.Rows.{Spelling}
@@ -43,7 +43,7 @@ arity_in_rows [] name option = None
 arity_in_rows (row ∷ rows) name option = if bytes_eq row.name name && bytes_eq row.option option then Some row.arity else arity_in_rows rows name option
 
 -- the same in the table of options; base options have no module's name
-abbrev pub arity_of : Text → Text → Option ℕ
+unfoldable pub arity_of : Text → Text → Option ℕ
 arity_of name option = arity_in_rows known_options name option
 
 -- whether some option of the module has a row
@@ -64,19 +64,32 @@ Takes None taken rest = AllByRecursion (λ word. stops word ≡ false) taken × 
 abbrev pub IsOptionName : Text → Type 0
 IsOptionName text = (begins_with_dashes text ≡ true) × (3 ≤ length text)
 
--- the words are these groups one after another, where `current` is the module that was named last
-abbrev pub AreGroups : Option Text → List Word → List Group → Type 0
-AreGroups current words [] = words ≡ []
-AreGroups current words (Base negated option arguments ∷ groups) =
-    (taken : List Word) × (rest : List Word) × ((words ≡ mark_words negated ++ bare option ∷ (taken ++ rest))
-    × (is_among base_options option ≡ true) × (arity_of [] option ≡ Some (length taken)) × (texts taken ≡ arguments)
-    × AreGroups current rest groups)
-AreGroups current words (Module name ∷ groups) =
-    (value : Word) × (rest : List Word) × ((words ≡ bare (codes "-m") ∷ value ∷ rest) × (value.text ≡ name) × AreGroups (Some name) rest groups)
-AreGroups current words (Named module' negated option arguments ∷ groups) =
-    (taken : List Word) × (rest : List Word) × ((words ≡ mark_words negated ++ bare option ∷ (taken ++ rest))
-    × (module' ≡ current) × IsOptionName option × Takes (arity_in current option) taken rest × (texts taken ≡ arguments)
-    × AreGroups current rest groups)
+-- the group stands at the front of the words and `rest` follows it, where `current` is the module that was named last
+abbrev pub IsGroup : Option Text → List Word → Group → List Word → Type 0
+IsGroup current words (Base negated option arguments) rest =
+    (taken : List Word) × ((words ≡ mark_words negated ++ bare option ∷ (taken ++ rest)) × (is_among base_options option ≡ true)
+    × (arity_of [] option ≡ Some (length taken)) × (texts taken ≡ arguments))
+IsGroup current words (Module name) rest = (value : Word) × ((words ≡ bare (codes "-m") ∷ value ∷ rest) × (value.text ≡ name))
+IsGroup current words (Named module' negated option arguments) rest =
+    (taken : List Word) × ((words ≡ mark_words negated ++ bare option ∷ (taken ++ rest)) × (module' ≡ current) × IsOptionName option
+    × Takes (arity_in current option) taken rest × (texts taken ≡ arguments))
+
+-- the module that is named last once the group has passed
+abbrev pub current_after : Option Text → Group → Option Text
+current_after current (Base negated option arguments) = current
+current_after current (Module name) = Some name
+current_after current (Named module' negated option arguments) = current
+
+-- the words are these groups one after another, and then `target`
+abbrev pub AreGroups : Option Text → List Word → List Group → List Word → Type 0
+AreGroups current words [] target = words ≡ target
+AreGroups current words (group ∷ groups) target =
+    (rest : List Word) × (IsGroup current words group rest × AreGroups (current_after current group) rest groups target)
+
+-- nothing stands there, or an unquoted `-j` or `-g` comes first
+abbrev pub EndsGroups : List Word → Type 0
+EndsGroups [] = Unit {0}
+EndsGroups (word ∷ words) = (word ≡ bare (codes "-j")) ⊎ (word ≡ bare (codes "-g"))
 
 -- the options of the base groups
 abbrev pub base_of : List Group → List Text

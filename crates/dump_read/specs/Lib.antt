@@ -2,6 +2,7 @@
 pub mod Lines
 pub mod ChainLines
 pub mod Groups
+pub mod GroupWords
 pub mod Arguments
 pub mod Literals
 pub mod Targets

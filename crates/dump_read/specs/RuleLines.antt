@@ -22,11 +22,11 @@ module _ {W : ℕ} (Reads : Text → ℕ → Type 0) (names : List Text) where
     pub counted : IsMaybeCounter counter
     pub chain : Word
     pub chain_is : chain.text ≡ rule.chain
-    pub group_words : List Word
+    pub rest : List Word
+    pub whole : words ≡ counter ++ (bare (codes "-A") ∷ chain ∷ rest)
     pub target : List Word
-    pub whole : words ≡ counter ++ (bare (codes "-A") ∷ chain ∷ (group_words ++ target))
     pub groups : List Group
-    pub grouped : AreGroups None group_words groups
+    pub grouped : AreGroups None rest groups target
     pub once : all_differ (base_of groups) ≡ true
     pub literals : AreLiterals Reads groups groups rule.literals
     pub targeted : IsTarget names target rule.action

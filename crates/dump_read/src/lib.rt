@@ -3,7 +3,10 @@
 
 mod chains;
 mod counters;
+mod division;
+mod grouping;
 mod names;
+mod options;
 mod patterns;
 mod pieces;
 mod ports;
@@ -11,7 +14,12 @@ mod states;
 mod targets;
 
 pub use chains::{Declared, chain_line};
+pub use division::groups;
+pub use grouping::{GroupWords, group};
 pub use patterns::pattern;
 pub use ports::port_range;
 pub use states::state_list;
 pub use targets::jump;
+
+#[cfg(test)]
+mod tests;

@@ -3,7 +3,8 @@ ghost use Rattle.std.specs.List.{list_any};
 ghost use Rattle.std.specs.Str.{bytes_eq};
 ghost use Rattle.dump_read.specs.ChainLines.{built_in, is_among, passing, target_words};
 
-fn any_of(names: &[&[u8]], text: &[u8]) -> bool
+/// Whether the text is one of these.
+pub(crate) fn any_of(names: &[&[u8]], text: &[u8]) -> bool
     ensures { result ≡ list_any (λ name. bytes_eq name.now text.now) names.now }
 {
     names.iter().any(|name| *name == text)
