@@ -1,0 +1,146 @@
+ghost use Rattle.std.specs.Prelude.{◌≡◌, ◌&&◌, IfOk, map, not};
+ghost use Rattle.match_expr.specs.Meaning.{eval_of};
+ghost use Rattle.primitives.specs.declared.prim.Packet.{Packet};
+ghost use Rattle.primitives.specs.Holds.{holds_of, IsValid};
+ghost use Rattle.box_norm.specs.Cubes.{any_holds};
+ghost use Rattle.box_norm.specs.Pieces.{cut_pieces, omit_pieces};
+ghost use Rattle.box_norm.specs.Cuts.{Answers, cuts_by, keep_all, omit_all, pieces_work};
+
+use crate::cube::{Cube, CubeFault};
+use crate::pieces::{push_cut, push_omit};
+use match_expr::{Expr, List};
+use primitives::Prim_;
+use std::alloc::{AllocError, Global};
+
+/// The most cubes that a list may have.
+const LIMIT: usize = 16_384;
+
+/// Copies of the cubes.
+fn cubes_copy<const W: u32>(alloc: Global, list: &[Cube<W>]) -> Result<Vec<Cube<W>>, AllocError>
+    ensures { IfOk result (λ v. v.items ≡ list.now) }
+{
+    let mut copies = Vec::new(alloc);
+    for cube in list {
+        copies.push(cube.copy(alloc)?)?;
+    }
+    Ok(copies)
+}
+
+/// The pieces of each cube where the test holds.
+fn cut_each<const W: u32>(
+    alloc: Global,
+    list: &[Cube<W>],
+    x: &Prim_<W>,
+) -> Result<List<Cube<W>>, CubeFault>
+    ensures { Answers (pieces_work (cut_pieces x.now) list.now) result }
+{
+    let mut out = Vec::new(alloc);
+    for cube in list {
+        push_cut(alloc, &mut out, cube, x)?;
+        if out.len() > LIMIT {
+            return Err(CubeFault::Boxes);
+        }
+    }
+    Ok(List::of(out))
+}
+
+/// The pieces of each cube where the test doesn't hold.
+fn omit_each<const W: u32>(
+    alloc: Global,
+    list: &[Cube<W>],
+    x: &Prim_<W>,
+) -> Result<List<Cube<W>>, CubeFault>
+    ensures { Answers (pieces_work (omit_pieces x.now) list.now) result }
+{
+    let mut out = Vec::new(alloc);
+    for cube in list {
+        push_omit(alloc, &mut out, cube, x)?;
+        if out.len() > LIMIT {
+            return Err(CubeFault::Boxes);
+        }
+    }
+    Ok(List::of(out))
+}
+
+/// The packets of the list where every part holds.
+#[cycle(cuts)]
+fn keep_parts<const W: u32>(
+    alloc: Global,
+    list: &[Cube<W>],
+    parts: &[Expr<Prim_<W>>],
+) -> Result<List<Cube<W>>, CubeFault>
+    ensures { Answers (keep_all (map (cuts_by {W = W}) parts.now) list.now) result }
+{
+    let mut kept = List::of(cubes_copy(alloc, list)?);
+    for part in parts {
+        kept = match cut_list(alloc, kept.as_slice(), part) {
+            Ok(next) => next,
+            Err(fault) => return Err(fault),
+        };
+    }
+    if kept.as_slice().len() > LIMIT {
+        return Err(CubeFault::Boxes);
+    }
+    Ok(kept)
+}
+
+/// The packets of the list where some part doesn't hold, those of the first part first.
+#[cycle(cuts)]
+fn omit_parts<const W: u32>(
+    alloc: Global,
+    list: &[Cube<W>],
+    parts: &[Expr<Prim_<W>>],
+) -> Result<List<Cube<W>>, CubeFault>
+    ensures { Answers (omit_all (map (cuts_by {W = W}) parts.now) list.now) result }
+{
+    let mut kept = List::of(cubes_copy(alloc, list)?);
+    let mut out = Vec::new(alloc);
+    for part in parts {
+        let more = match omit_list(alloc, kept.as_slice(), part) {
+            Ok(more) => more,
+            Err(fault) => return Err(fault),
+        };
+        let mut more = more.into_vec();
+        out.append(&mut more)?;
+        if out.len() > LIMIT {
+            return Err(CubeFault::Boxes);
+        }
+        kept = match cut_list(alloc, kept.as_slice(), part) {
+            Ok(next) => next,
+            Err(fault) => return Err(fault),
+        };
+    }
+    Ok(List::of(out))
+}
+
+/// `cut` of a list that is lent.
+#[cycle(cuts)]
+pub fn cut_list<const W: u32>(
+    alloc: Global,
+    list: &[Cube<W>],
+    e: &Expr<Prim_<W>>,
+) -> Result<List<Cube<W>>, CubeFault>
+    ensures { Answers ((cuts_by {W = W} e.now).keep list.now) result }
+{
+    match e {
+        Expr::All(parts) => keep_parts(alloc, list, parts.as_slice()),
+        Expr::Not(part) => omit_list(alloc, list, part.get()),
+        Expr::Prim(x) => cut_each(alloc, list, x),
+    }
+}
+
+/// `cut_not` of a list that is lent.
+#[cycle(cuts)]
+pub fn omit_list<const W: u32>(
+    alloc: Global,
+    list: &[Cube<W>],
+    e: &Expr<Prim_<W>>,
+) -> Result<List<Cube<W>>, CubeFault>
+    ensures { Answers ((cuts_by {W = W} e.now).omit list.now) result }
+{
+    match e {
+        Expr::All(parts) => omit_parts(alloc, list, parts.as_slice()),
+        Expr::Not(part) => cut_list(alloc, list, part.get()),
+        Expr::Prim(x) => omit_each(alloc, list, x),
+    }
+}

@@ -1,0 +1,282 @@
+ghost use Rattle.std.specs.Prelude.{◌≡◌, ◌++◌, IfOk, OnOk};
+ghost use Rattle.box_norm.specs.Cubes.{is_none, has_no_range, kept};
+ghost use Rattle.box_norm.specs.Pieces.{single, flags_where, cut_pieces, omit_pieces};
+
+use crate::cube::Cube;
+use interval_set::Set;
+use name_set::NameSet;
+use primitives::Prim_;
+use std::alloc::{AllocError, Global};
+
+fn no_range<const W: u32>(set: &Set<W>) -> bool
+    ensures { result ≡ has_no_range set.now }
+{
+    set.ranges().is_empty()
+}
+
+/// Whether a dimension is empty.
+pub fn is_empty<const W: u32>(cube: &Cube<W>) -> bool
+    ensures { result ≡ is_none cube.now }
+{
+    cube.in_name.is_covered()
+        || cube.out_name.is_covered()
+        || no_range(&cube.src)
+        || no_range(&cube.dst)
+        || no_range(&cube.proto)
+        || no_range(&cube.sport)
+        || no_range(&cube.dport)
+        || cube.flags == 0
+        || cube.state == 0
+}
+
+/// Appends the cube, unless it is empty.
+fn keep<const W: u32>(out: &mut Vec<Cube<W>>, cube: Cube<W>) -> Result<(), AllocError>
+    ensures { OnOk result (out.new.items ≡ out.old.items ++ kept cube.entry) }
+{
+    if is_empty(&cube) {
+        return Ok(());
+    }
+    out.push(cube)?;
+    Ok(())
+}
+
+/// The set of one number.
+fn only(alloc: Global, number: u8) -> Result<Set<8>, AllocError>
+    ensures { IfOk result (λ s. s ≡ single number) }
+{
+    Set::range(alloc, number as u128, number as u128)
+}
+
+/// The flag numbers that match, as bits.
+fn matching(mask: u8, comp: u8) -> u64
+    ensures { result ≡ flags_where mask comp 64 }
+{
+    let mut bits: u64 = 0;
+    for number in 0..64u8 {
+        if number & mask == comp {
+            bits |= 1u64 << number;
+        }
+    }
+    bits
+}
+
+/// Appends the cube with these for the names of the input interface, unless it is empty.
+fn put_in_name<const W: u32>(
+    alloc: Global,
+    out: &mut Vec<Cube<W>>,
+    cube: &Cube<W>,
+    in_name: NameSet,
+) -> Result<(), AllocError>
+    ensures { OnOk result (out.new.items ≡ out.old.items ++ kept (record cube.now { in_name = in_name })) }
+{
+    let piece = dims!(alloc, cube; in_name = in_name);
+    keep(out, piece)
+}
+
+/// Appends the cube with these for the names of the output interface, unless it is empty.
+fn put_out_name<const W: u32>(
+    alloc: Global,
+    out: &mut Vec<Cube<W>>,
+    cube: &Cube<W>,
+    out_name: NameSet,
+) -> Result<(), AllocError>
+    ensures { OnOk result (out.new.items ≡ out.old.items ++ kept (record cube.now { out_name = out_name })) }
+{
+    let piece = dims!(alloc, cube; out_name = out_name);
+    keep(out, piece)
+}
+
+/// Appends the cube with these for the sources, unless it is empty.
+fn put_src<const W: u32>(
+    alloc: Global,
+    out: &mut Vec<Cube<W>>,
+    cube: &Cube<W>,
+    src: Set<W>,
+) -> Result<(), AllocError>
+    ensures { OnOk result (out.new.items ≡ out.old.items ++ kept (record cube.now { src = src.entry })) }
+{
+    let piece = dims!(alloc, cube; src = src);
+    keep(out, piece)
+}
+
+/// Appends the cube with these for the destinations, unless it is empty.
+fn put_dst<const W: u32>(
+    alloc: Global,
+    out: &mut Vec<Cube<W>>,
+    cube: &Cube<W>,
+    dst: Set<W>,
+) -> Result<(), AllocError>
+    ensures { OnOk result (out.new.items ≡ out.old.items ++ kept (record cube.now { dst = dst.entry })) }
+{
+    let piece = dims!(alloc, cube; dst = dst);
+    keep(out, piece)
+}
+
+/// Appends the cube with these for the protocols, unless it is empty.
+fn put_proto<const W: u32>(
+    alloc: Global,
+    out: &mut Vec<Cube<W>>,
+    cube: &Cube<W>,
+    proto: Set<8>,
+) -> Result<(), AllocError>
+    ensures { OnOk result (out.new.items ≡ out.old.items ++ kept (record cube.now { proto = proto })) }
+{
+    let piece = dims!(alloc, cube; proto = proto);
+    keep(out, piece)
+}
+
+/// Appends the cube with these for the protocols and source ports, unless it is empty.
+fn put_sport<const W: u32>(
+    alloc: Global,
+    out: &mut Vec<Cube<W>>,
+    cube: &Cube<W>,
+    proto: Set<8>,
+    sport: Set<16>,
+) -> Result<(), AllocError>
+    ensures { OnOk result (out.new.items ≡ out.old.items ++ kept (record cube.now { proto = proto; sport = sport })) }
+{
+    let piece = dims!(alloc, cube; proto = proto, sport = sport);
+    keep(out, piece)
+}
+
+/// Appends the cube with these for the protocols and destination ports, unless it is empty.
+fn put_dport<const W: u32>(
+    alloc: Global,
+    out: &mut Vec<Cube<W>>,
+    cube: &Cube<W>,
+    proto: Set<8>,
+    dport: Set<16>,
+) -> Result<(), AllocError>
+    ensures { OnOk result (out.new.items ≡ out.old.items ++ kept (record cube.now { proto = proto; dport = dport })) }
+{
+    let piece = dims!(alloc, cube; proto = proto, dport = dport);
+    keep(out, piece)
+}
+
+/// Appends the cube with these for the protocols and flags, unless it is empty.
+fn put_flags<const W: u32>(
+    alloc: Global,
+    out: &mut Vec<Cube<W>>,
+    cube: &Cube<W>,
+    proto: Set<8>,
+    flags: u64,
+) -> Result<(), AllocError>
+    ensures { OnOk result (out.new.items ≡ out.old.items ++ kept (record cube.now { proto = proto; flags = flags })) }
+{
+    let piece = dims!(alloc, cube; proto = proto, flags = flags);
+    keep(out, piece)
+}
+
+/// Appends the cube with these for the states, unless it is empty.
+fn put_state<const W: u32>(
+    alloc: Global,
+    out: &mut Vec<Cube<W>>,
+    cube: &Cube<W>,
+    state: u8,
+) -> Result<(), AllocError>
+    ensures { OnOk result (out.new.items ≡ out.old.items ++ kept (record cube.now { state = state })) }
+{
+    let piece = dims!(alloc, cube; state = state);
+    keep(out, piece)
+}
+
+/// Appends the pieces of the cube where the test holds.
+pub fn push_cut<const W: u32>(
+    alloc: Global,
+    out: &mut Vec<Cube<W>>,
+    cube: &Cube<W>,
+    x: &Prim_<W>,
+) -> Result<(), AllocError>
+    ensures { OnOk result (out.new.items ≡ out.old.items ++ cut_pieces x.now cube.now) }
+{
+    match x {
+        Prim_::Src(set) => put_src(alloc, out, cube, cube.src.and(alloc, set)?),
+        Prim_::Dst(set) => put_dst(alloc, out, cube, cube.dst.and(alloc, set)?),
+        Prim_::InName(pattern) => match cube.in_name.cut(alloc, pattern)? {
+            Some(names) => put_in_name(alloc, out, cube, names),
+            None => Ok(()),
+        },
+        Prim_::OutName(pattern) => match cube.out_name.cut(alloc, pattern)? {
+            Some(names) => put_out_name(alloc, out, cube, names),
+            None => Ok(()),
+        },
+        Prim_::Proto(proto) => {
+            let proto = cube.proto.and(alloc, &only(alloc, proto.number)?)?;
+            put_proto(alloc, out, cube, proto)
+        }
+        Prim_::SrcPorts(ports) => {
+            let proto = cube.proto.and(alloc, &only(alloc, ports.proto)?)?;
+            put_sport(alloc, out, cube, proto, cube.sport.and(alloc, &ports.set)?)
+        }
+        Prim_::DstPorts(ports) => {
+            let proto = cube.proto.and(alloc, &only(alloc, ports.proto)?)?;
+            put_dport(alloc, out, cube, proto, cube.dport.and(alloc, &ports.set)?)
+        }
+        Prim_::Flags { mask, comp } => {
+            let proto = cube.proto.and(alloc, &only(alloc, 6)?)?;
+            put_flags(alloc, out, cube, proto, cube.flags & matching(*mask, *comp))
+        }
+        Prim_::State(states) => put_state(alloc, out, cube, cube.state & *states),
+        Prim_::Always => keep(out, cube.copy(alloc)?),
+    }
+}
+
+/// Appends the pieces of the cube where the test doesn't hold.
+pub fn push_omit<const W: u32>(
+    alloc: Global,
+    out: &mut Vec<Cube<W>>,
+    cube: &Cube<W>,
+    x: &Prim_<W>,
+) -> Result<(), AllocError>
+    ensures { OnOk result (out.new.items ≡ out.old.items ++ omit_pieces x.now cube.now) }
+{
+    match x {
+        Prim_::Src(set) => put_src(alloc, out, cube, cube.src.minus(alloc, set)?),
+        Prim_::Dst(set) => put_dst(alloc, out, cube, cube.dst.minus(alloc, set)?),
+        Prim_::InName(pattern) => match cube.in_name.cut_not(alloc, pattern)? {
+            Some(names) => put_in_name(alloc, out, cube, names),
+            None => Ok(()),
+        },
+        Prim_::OutName(pattern) => match cube.out_name.cut_not(alloc, pattern)? {
+            Some(names) => put_out_name(alloc, out, cube, names),
+            None => Ok(()),
+        },
+        Prim_::Proto(proto) => {
+            let proto = cube.proto.minus(alloc, &only(alloc, proto.number)?)?;
+            put_proto(alloc, out, cube, proto)
+        }
+        Prim_::SrcPorts(ports) => {
+            let number = only(alloc, ports.proto)?;
+            put_proto(alloc, out, cube, cube.proto.minus(alloc, &number)?)?;
+            let proto = cube.proto.and(alloc, &number)?;
+            put_sport(
+                alloc,
+                out,
+                cube,
+                proto,
+                cube.sport.minus(alloc, &ports.set)?,
+            )
+        }
+        Prim_::DstPorts(ports) => {
+            let number = only(alloc, ports.proto)?;
+            put_proto(alloc, out, cube, cube.proto.minus(alloc, &number)?)?;
+            let proto = cube.proto.and(alloc, &number)?;
+            put_dport(
+                alloc,
+                out,
+                cube,
+                proto,
+                cube.dport.minus(alloc, &ports.set)?,
+            )
+        }
+        Prim_::Flags { mask, comp } => {
+            let number = only(alloc, 6)?;
+            put_proto(alloc, out, cube, cube.proto.minus(alloc, &number)?)?;
+            let proto = cube.proto.and(alloc, &number)?;
+            let matched = cube.flags & matching(*mask, *comp);
+            put_flags(alloc, out, cube, proto, cube.flags ^ matched)
+        }
+        Prim_::State(states) => put_state(alloc, out, cube, cube.state ^ (cube.state & *states)),
+        Prim_::Always => Ok(()),
+    }
+}
