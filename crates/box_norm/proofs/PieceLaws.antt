@@ -127,84 +127,84 @@ out_holds c p None = sym (and_false (has_name c.in_name p.in_name))
 out_holds c p (Some s) = kept_holds (record c { out_name = s }) p
 
 -- the factors, and the products from each on
-abbrev A1 : {W : ℕ} → Cube W → Packet → Bool
-A1 c p = has_name c.in_name p.in_name
+abbrev factor1 : {W : ℕ} → Cube W → Packet → Bool
+factor1 c p = has_name c.in_name p.in_name
 
-abbrev A2 : {W : ℕ} → Cube W → Packet → Bool
-A2 c p = has_name c.out_name p.out_name
+abbrev factor2 : {W : ℕ} → Cube W → Packet → Bool
+factor2 c p = has_name c.out_name p.out_name
 
-abbrev A3 : {W : ℕ} → Cube W → Packet → Bool
-A3 c p = has c.src p.src
+abbrev factor3 : {W : ℕ} → Cube W → Packet → Bool
+factor3 c p = has c.src p.src
 
-abbrev A4 : {W : ℕ} → Cube W → Packet → Bool
-A4 c p = has c.dst p.dst
+abbrev factor4 : {W : ℕ} → Cube W → Packet → Bool
+factor4 c p = has c.dst p.dst
 
-abbrev A5 : {W : ℕ} → Cube W → Packet → Bool
-A5 c p = has c.proto p.proto
+abbrev factor5 : {W : ℕ} → Cube W → Packet → Bool
+factor5 c p = has c.proto p.proto
 
-abbrev A6 : {W : ℕ} → Cube W → Packet → Bool
-A6 c p = has c.sport p.sport
+abbrev factor6 : {W : ℕ} → Cube W → Packet → Bool
+factor6 c p = has c.sport p.sport
 
-abbrev A7 : {W : ℕ} → Cube W → Packet → Bool
-A7 c p = has c.dport p.dport
+abbrev factor7 : {W : ℕ} → Cube W → Packet → Bool
+factor7 c p = has c.dport p.dport
 
-abbrev A8 : {W : ℕ} → Cube W → Packet → Bool
-A8 c p = has_bit c.flags p.flags
+abbrev factor8 : {W : ℕ} → Cube W → Packet → Bool
+factor8 c p = has_bit c.flags p.flags
 
-abbrev A9 : {W : ℕ} → Cube W → Packet → Bool
-A9 c p = has_bit c.state p.state
+abbrev factor9 : {W : ℕ} → Cube W → Packet → Bool
+factor9 c p = has_bit c.state p.state
 
-abbrev R9 : {W : ℕ} → Cube W → Packet → Bool
-R9 c p = A9 c p
+abbrev from9 : {W : ℕ} → Cube W → Packet → Bool
+from9 c p = factor9 c p
 
-abbrev R8 : {W : ℕ} → Cube W → Packet → Bool
-R8 c p = A8 c p && R9 c p
+abbrev from8 : {W : ℕ} → Cube W → Packet → Bool
+from8 c p = factor8 c p && from9 c p
 
-abbrev R7 : {W : ℕ} → Cube W → Packet → Bool
-R7 c p = A7 c p && R8 c p
+abbrev from7 : {W : ℕ} → Cube W → Packet → Bool
+from7 c p = factor7 c p && from8 c p
 
-abbrev R6 : {W : ℕ} → Cube W → Packet → Bool
-R6 c p = A6 c p && R7 c p
+abbrev from6 : {W : ℕ} → Cube W → Packet → Bool
+from6 c p = factor6 c p && from7 c p
 
-abbrev R5 : {W : ℕ} → Cube W → Packet → Bool
-R5 c p = A5 c p && R6 c p
+abbrev from5 : {W : ℕ} → Cube W → Packet → Bool
+from5 c p = factor5 c p && from6 c p
 
-abbrev R4 : {W : ℕ} → Cube W → Packet → Bool
-R4 c p = A4 c p && R5 c p
+abbrev from4 : {W : ℕ} → Cube W → Packet → Bool
+from4 c p = factor4 c p && from5 c p
 
-abbrev R3 : {W : ℕ} → Cube W → Packet → Bool
-R3 c p = A3 c p && R4 c p
+abbrev from3 : {W : ℕ} → Cube W → Packet → Bool
+from3 c p = factor3 c p && from4 c p
 
-abbrev R2 : {W : ℕ} → Cube W → Packet → Bool
-R2 c p = A2 c p && R3 c p
+abbrev from2 : {W : ℕ} → Cube W → Packet → Bool
+from2 c p = factor2 c p && from3 c p
 
 -- one dimension changed
 module _ {W : ℕ} (c : Cube W) (p : Packet) (t : Bool) where
   pub src_by : (s : List Range) → has s p.src ≡ (has c.src p.src && t) → any_holds (kept (record c { src = s })) p ≡ (holds_cube c p && t)
-  src_by s e = kept_holds (record c { src = s }) p ∙ (under (A1 c p) (R2 c p) t _ (under (A2 c p) (R3 c p) t _ (here (A3 c p) (R4 c p) t _ e)))
+  src_by s e = kept_holds (record c { src = s }) p ∙ (under (factor1 c p) (from2 c p) t _ (under (factor2 c p) (from3 c p) t _ (here (factor3 c p) (from4 c p) t _ e)))
 
   pub dst_by : (s : List Range) → has s p.dst ≡ (has c.dst p.dst && t) → any_holds (kept (record c { dst = s })) p ≡ (holds_cube c p && t)
-  dst_by s e = kept_holds (record c { dst = s }) p ∙ (under (A1 c p) (R2 c p) t _ (under (A2 c p) (R3 c p) t _ (under (A3 c p) (R4 c p) t _ (here (A4 c p) (R5 c p) t _ e))))
+  dst_by s e = kept_holds (record c { dst = s }) p ∙ (under (factor1 c p) (from2 c p) t _ (under (factor2 c p) (from3 c p) t _ (under (factor3 c p) (from4 c p) t _ (here (factor4 c p) (from5 c p) t _ e))))
 
   pub proto_by : (s : List Range) → has s p.proto ≡ (has c.proto p.proto && t) → any_holds (kept (record c { proto = s })) p ≡ (holds_cube c p && t)
-  proto_by s e = kept_holds (record c { proto = s }) p ∙ (under (A1 c p) (R2 c p) t _ (under (A2 c p) (R3 c p) t _ (under (A3 c p) (R4 c p) t _ (under (A4 c p) (R5 c p) t _ (here (A5 c p) (R6 c p) t _ e)))))
+  proto_by s e = kept_holds (record c { proto = s }) p ∙ (under (factor1 c p) (from2 c p) t _ (under (factor2 c p) (from3 c p) t _ (under (factor3 c p) (from4 c p) t _ (under (factor4 c p) (from5 c p) t _ (here (factor5 c p) (from6 c p) t _ e)))))
 
   pub state_by : (s : ℕ) → has_bit s p.state ≡ (has_bit c.state p.state && t) → any_holds (kept (record c { state = s })) p ≡ (holds_cube c p && t)
-  state_by s e = kept_holds (record c { state = s }) p ∙ (under (A1 c p) (R2 c p) t _ (under (A2 c p) (R3 c p) t _ (under (A3 c p) (R4 c p) t _ (under (A4 c p) (R5 c p) t _ (under (A5 c p) (R6 c p) t _ (under (A6 c p) (R7 c p) t _ (under (A7 c p) (R8 c p) t _ (under (A8 c p) (R9 c p) t _ e))))))))
+  state_by s e = kept_holds (record c { state = s }) p ∙ (under (factor1 c p) (from2 c p) t _ (under (factor2 c p) (from3 c p) t _ (under (factor3 c p) (from4 c p) t _ (under (factor4 c p) (from5 c p) t _ (under (factor5 c p) (from6 c p) t _ (under (factor6 c p) (from7 c p) t _ (under (factor7 c p) (from8 c p) t _ (under (factor8 c p) (from9 c p) t _ e))))))))
 
 -- the protocol and one dimension more
 module _ {W : ℕ} (c : Cube W) (p : Packet) (r t : Bool) where
   pub sport_by : (q : List Range) (s : List Range) → has q p.proto ≡ (has c.proto p.proto && r) → has s p.sport ≡ (has c.sport p.sport && t) →
       any_holds (kept (record c { proto = q; sport = s })) p ≡ (holds_cube c p && (r && t))
-  sport_by q s e f = kept_holds (record c { proto = q; sport = s }) p ∙ (under (A1 c p) (R2 c p) (r && t) _ (under (A2 c p) (R3 c p) (r && t) _ (under (A3 c p) (R4 c p) (r && t) _ (under (A4 c p) (R5 c p) (r && t) _ (two (A5 c p) (R6 c p) r t _ _ e (here (A6 c p) (R7 c p) t _ f))))))
+  sport_by q s e f = kept_holds (record c { proto = q; sport = s }) p ∙ (under (factor1 c p) (from2 c p) (r && t) _ (under (factor2 c p) (from3 c p) (r && t) _ (under (factor3 c p) (from4 c p) (r && t) _ (under (factor4 c p) (from5 c p) (r && t) _ (two (factor5 c p) (from6 c p) r t _ _ e (here (factor6 c p) (from7 c p) t _ f))))))
 
   pub dport_by : (q : List Range) (s : List Range) → has q p.proto ≡ (has c.proto p.proto && r) → has s p.dport ≡ (has c.dport p.dport && t) →
       any_holds (kept (record c { proto = q; dport = s })) p ≡ (holds_cube c p && (r && t))
-  dport_by q s e f = kept_holds (record c { proto = q; dport = s }) p ∙ (under (A1 c p) (R2 c p) (r && t) _ (under (A2 c p) (R3 c p) (r && t) _ (under (A3 c p) (R4 c p) (r && t) _ (under (A4 c p) (R5 c p) (r && t) _ (two (A5 c p) (R6 c p) r t _ _ e (under (A6 c p) (R7 c p) t _ (here (A7 c p) (R8 c p) t _ f)))))))
+  dport_by q s e f = kept_holds (record c { proto = q; dport = s }) p ∙ (under (factor1 c p) (from2 c p) (r && t) _ (under (factor2 c p) (from3 c p) (r && t) _ (under (factor3 c p) (from4 c p) (r && t) _ (under (factor4 c p) (from5 c p) (r && t) _ (two (factor5 c p) (from6 c p) r t _ _ e (under (factor6 c p) (from7 c p) t _ (here (factor7 c p) (from8 c p) t _ f)))))))
 
   pub flags_by : (q : List Range) (s : ℕ) → has q p.proto ≡ (has c.proto p.proto && r) → has_bit s p.flags ≡ (has_bit c.flags p.flags && t) →
       any_holds (kept (record c { proto = q; flags = s })) p ≡ (holds_cube c p && (r && t))
-  flags_by q s e f = kept_holds (record c { proto = q; flags = s }) p ∙ (under (A1 c p) (R2 c p) (r && t) _ (under (A2 c p) (R3 c p) (r && t) _ (under (A3 c p) (R4 c p) (r && t) _ (under (A4 c p) (R5 c p) (r && t) _ (two (A5 c p) (R6 c p) r t _ _ e (under (A6 c p) (R7 c p) t _ (under (A7 c p) (R8 c p) t _ (here (A8 c p) (R9 c p) t _ f))))))))
+  flags_by q s e f = kept_holds (record c { proto = q; flags = s }) p ∙ (under (factor1 c p) (from2 c p) (r && t) _ (under (factor2 c p) (from3 c p) (r && t) _ (under (factor3 c p) (from4 c p) (r && t) _ (under (factor4 c p) (from5 c p) (r && t) _ (two (factor5 c p) (from6 c p) r t _ _ e (under (factor6 c p) (from7 c p) t _ (under (factor7 c p) (from8 c p) t _ (here (factor8 c p) (from9 c p) t _ f))))))))
 
 flag_test : (mask comp f : ℕ) → f < 64 → has_bit (flags_where mask comp 64) f ≡ (bit_and f mask == comp)
 flag_test mask comp f h = let e = flags_has mask comp 64 f in grind (arith, nat_tests, e, h)
@@ -213,8 +213,8 @@ flag_test mask comp f h = let e = flags_has mask comp 64 f in grind (arith, nat_
 pub cut_holds : {W : ℕ} (x : Prim_ W) (c : Cube W) (p : Packet) → IsValid W p → any_holds (cut_pieces x c) p ≡ (holds_cube c p && holds_of x p)
 cut_holds {W} (Prim_.Src set) c p v = src_by c p (has set p.src) _ (and_within W c.src set p.src v.src)
 cut_holds {W} (Prim_.Dst set) c p v = dst_by c p (has set p.dst) _ (and_within W c.dst set p.dst v.dst)
-cut_holds (Prim_.InName by) c p v = in_holds c p (cut_of c.in_name by) ∙ here (A1 c p) (past_in c p) (fits by p.in_name) _ (cut_names c.in_name by p.in_name)
-cut_holds (Prim_.OutName by) c p v = out_holds c p (cut_of c.out_name by) ∙ under (A1 c p) (R2 c p) (fits by p.out_name) _ (here (A2 c p) (past_out c p) (fits by p.out_name) _ (cut_names c.out_name by p.out_name))
+cut_holds (Prim_.InName by) c p v = in_holds c p (cut_of c.in_name by) ∙ here (factor1 c p) (past_in c p) (fits by p.in_name) _ (cut_names c.in_name by p.in_name)
+cut_holds (Prim_.OutName by) c p v = out_holds c p (cut_of c.out_name by) ∙ under (factor1 c p) (from2 c p) (fits by p.out_name) _ (here (factor2 c p) (past_out c p) (fits by p.out_name) _ (cut_names c.out_name by p.out_name))
 cut_holds (Prim_.Proto proto) c p v = proto_by c p (p.proto == proto) _ (and_single c.proto proto p.proto v.proto)
 cut_holds (Prim_.SrcPorts ports) c p v = sport_by c p (p.proto == ports.proto) (has ports.set p.sport) _ _ (and_single c.proto ports.proto p.proto v.proto) (and_within 16 c.sport ports.set p.sport v.sport)
 cut_holds (Prim_.DstPorts ports) c p v = dport_by c p (p.proto == ports.proto) (has ports.set p.dport) _ _ (and_single c.proto ports.proto p.proto v.proto) (and_within 16 c.dport ports.set p.dport v.dport)
@@ -227,8 +227,8 @@ cut_holds Prim_.Always c p v = kept_holds c p ∙ sym (and_true (holds_cube c p)
 pub omit_holds : {W : ℕ} (x : Prim_ W) (c : Cube W) (p : Packet) → IsValid W p → any_holds (omit_pieces x c) p ≡ (holds_cube c p && not (holds_of x p))
 omit_holds {W} (Prim_.Src set) c p v = src_by c p (not (has set p.src)) _ (minus_within W c.src set p.src v.src)
 omit_holds {W} (Prim_.Dst set) c p v = dst_by c p (not (has set p.dst)) _ (minus_within W c.dst set p.dst v.dst)
-omit_holds (Prim_.InName by) c p v = in_holds c p (cut_not_of c.in_name by) ∙ here (A1 c p) (past_in c p) (not (fits by p.in_name)) _ (cut_not_names c.in_name by p.in_name)
-omit_holds (Prim_.OutName by) c p v = out_holds c p (cut_not_of c.out_name by) ∙ under (A1 c p) (R2 c p) (not (fits by p.out_name)) _ (here (A2 c p) (past_out c p) (not (fits by p.out_name)) _ (cut_not_names c.out_name by p.out_name))
+omit_holds (Prim_.InName by) c p v = in_holds c p (cut_not_of c.in_name by) ∙ here (factor1 c p) (past_in c p) (not (fits by p.in_name)) _ (cut_not_names c.in_name by p.in_name)
+omit_holds (Prim_.OutName by) c p v = out_holds c p (cut_not_of c.out_name by) ∙ under (factor1 c p) (from2 c p) (not (fits by p.out_name)) _ (here (factor2 c p) (past_out c p) (not (fits by p.out_name)) _ (cut_not_names c.out_name by p.out_name))
 omit_holds (Prim_.Proto proto) c p v = proto_by c p (not (p.proto == proto)) _ (minus_single c.proto proto p.proto v.proto)
 omit_holds (Prim_.SrcPorts ports) c p v =
     any_append (kept (record c { proto = set_minus 8 c.proto (single ports.proto) })) (kept (record c { proto = set_and 8 c.proto (single ports.proto); sport = set_minus 16 c.sport ports.set })) p ∙ parted (holds_cube c p) (p.proto == ports.proto) (has ports.set p.sport) _ _

@@ -1,19 +1,23 @@
-ghost use Rattle.std.specs.Prelude.{◌≡◌, ◌&&◌, IfOk, not, ℕ};
+ghost use Rattle.std.specs.Prelude.{◌≡◌, ◌++◌, ◌&&◌, [], ◌∷◌, IfOk, OnOk, not, ℕ};
 ghost use Rattle.interval_set.specs.Numbers.{IsWidth};
+ghost use Rattle.match_expr.specs.FirstMatch.{first_match};
 ghost use Rattle.match_expr.specs.Meaning.{eval_of};
 ghost use Rattle.primitives.specs.declared.prim.Packet.{Packet};
 ghost use Rattle.primitives.specs.Holds.{holds_of, IsValid};
 ghost use Rattle.box_norm.specs.Cubes.{any_holds};
 ghost use Rattle.box_norm.specs.Cuts.{Answers, cuts_by};
-ghost use Rattle.box_norm.specs.Normal.{first_of, whole_of};
+ghost use Rattle.box_norm.specs.Normal.{NormalAnswers, first_of, whole_of, with_verdict};
 
 use crate::cube::{Cube, CubeFault, SimpleRule};
 use crate::cuts::{cut_list, omit_list};
 use interval_set::Set;
-use match_expr::{Expr, List};
+use match_expr::{Expr, FlatRule, List};
 use name_set::NameSet;
 use primitives::{Packet, Prim_};
 use std::alloc::{AllocError, Global};
+
+/// The most simple rules that a normal form may have.
+const MOST: usize = 131_072;
 
 /// The packets of the list where the expression holds.
 ///
@@ -64,6 +68,74 @@ pub fn whole<const W: u32>(alloc: Global) -> Result<Cube<W>, AllocError>
         flags: u64::MAX,
         state: 31,
     })
+}
+
+/// Appends a rule with this verdict for each of the cubes.
+fn push_rules<const W: u32>(
+    out: &mut Vec<SimpleRule<W>>,
+    cubes: Vec<Cube<W>>,
+    accept: bool,
+) -> Result<(), AllocError>
+    ensures { OnOk result (out.new.items ≡ out.old.items ++ with_verdict accept cubes.entry.items) }
+{
+    for cube in cubes {
+        out.push(SimpleRule { cube, accept })?;
+    }
+    Ok(())
+}
+
+/// The list of the cube of all packets alone.
+fn whole_list<const W: u32>(alloc: Global) -> Result<Vec<Cube<W>>, AllocError>
+    requires { IsWidth W }
+    ensures { IfOk result (λ v. v.items ≡ whole_of W ∷ []) }
+{
+    let mut list = Vec::new(alloc);
+    list.push(whole(alloc)?)?;
+    Ok(list)
+}
+
+/// `normal`, by its list.
+fn normal_list<const W: u32>(
+    alloc: Global,
+    rules: &[FlatRule<Prim_<W>>],
+) -> Result<List<SimpleRule<W>>, CubeFault>
+    requires { IsWidth W }
+    ensures { NormalAnswers rules.now result }
+{
+    let start = whole_list(alloc)?;
+    let mut out = Vec::new(alloc);
+    let mut is_full = false;
+    for rule in rules {
+        let cubes = match cut_list(alloc, start.as_slice(), &rule.expr) {
+            Ok(cubes) => cubes.into_vec(),
+            Err(fault) => return Err(fault),
+        };
+        is_full = is_full || out.len() + cubes.len() > MOST;
+        if !is_full {
+            push_rules(&mut out, cubes, rule.accept)?;
+        }
+    }
+    if is_full {
+        return Err(CubeFault::Rules);
+    }
+    Ok(List::of(out))
+}
+
+/// The flat list as rules of cubes: for each flat rule in turn the cubes of `cut` of the whole cube by its expression,
+/// each with the rule's verdict.
+///
+/// `CubeFault::Boxes` exactly where `cut` answers it for some rule, else `CubeFault::Rules` exactly where the simple
+/// rules are more than 131,072. For each valid packet the first simple rule that holds gives the verdict of the first flat
+/// rule whose expression holds.
+pub fn normal<const W: u32>(
+    alloc: Global,
+    rules: &[FlatRule<Prim_<W>>],
+) -> Result<List<SimpleRule<W>>, CubeFault>
+    requires { IsWidth W }
+    ensures answers { NormalAnswers rules.now result }
+    ensures first { IfOk result (λ l. (p : Packet) → IsValid W p → first_of l p ≡ first_match (λ x. holds_of x p) rules.now) }
+{
+    normal_list(alloc, rules)
 }
 
 /// What the first rule answers whose cube the packet is in. None exactly where there is no such rule.

@@ -1,0 +1,6 @@
+use Rattle.std.proofs.Common.{drop}
+use Rattle.box_norm.proofs.Normals.{Normals}
+use Rattle.box_norm.proofs.rules.normal_list.Given as goal
+
+abbrev pub invariant-loop-rule : goal.invariant-loop-rule
+invariant-loop-rule g l = Normals l.is_full l.out.items (drop l.rule-index l.rules) l.rules
