@@ -1,1 +1,4 @@
 pub mod Marking
+pub mod Paths
+pub mod RankLemmas
+pub mod TableLemmas

@@ -214,10 +214,10 @@ pub inside : {P : Type 0} (rules : List (Rule P)) (i : ℕ) (rule : Rule P) → 
 inside rules i rule h is chain m0 m e within long = let below : chain < length m0 = within chain (rule, (i, h, sym is), e) in omega (arith, below, long)
 
 -- a list that is written back whole
-whole : (m rest : List Bool) → take (length m) (m ++ rest) ≡ m
+whole : {X : Type 0} (m rest : List X) → take (length m) (m ++ rest) ≡ m
 whole m rest = let short : length m ≤ length m = omega arith in take-append-le (length m) m rest short ∙ take_all (length m) m short
 
-pub written : (n : ℕ) (m rest : List Bool) → length m ≡ n → take n (m ++ rest) ≡ m
+pub written : {X : Type 0} (n : ℕ) (m rest : List X) → length m ≡ n → take n (m ++ rest) ≡ m
 written n m rest e = subst (λ (k : ℕ). take k (m ++ rest) ≡ m) e (whole m rest)
 
 take_none : (s : List ℕ) → take 0 s ≡ []

@@ -3,3 +3,5 @@ pub mod Paths
 pub mod Visits
 pub mod Faults
 pub mod Marks
+pub mod Tables
+pub mod Results

@@ -2,7 +2,11 @@
 #![tactic(auto)]
 
 mod graph;
+mod loops;
+mod ranking;
 mod reach;
 
 pub use graph::{GraphFault, Ranked};
+pub use loops::first_loop;
+pub use ranking::ranked;
 pub use reach::{reachable, reached_by_call};
