@@ -6,3 +6,4 @@ pub mod TargetLemmas
 pub mod OptionLemmas
 pub mod GroupLemmas
 pub mod DivisionLemmas
+pub mod LawLemmas

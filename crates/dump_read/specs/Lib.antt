@@ -9,3 +9,4 @@ pub mod Targets
 pub mod RuleLines
 pub mod Tables
 pub mod Reads
+pub mod Laws

@@ -15,15 +15,16 @@ pub record Spelled (W : ℕ) : Type 0 where
   pub literals : List (Lit (Prim_ W))
   pub action : Action
 
+-- an optional counter, `-A`, the name of the chain, and then `rest`
+abbrev pub IsRuleHead : List Word → Text → List Word → Type 0
+IsRuleHead words chain rest = (counter : List Word) × (name : Word) × (IsMaybeCounter counter × (name.text ≡ chain)
+    × (words ≡ counter ++ (bare (codes "-A") ∷ name ∷ rest)))
+
 module _ {W : ℕ} (Reads : Text → ℕ → Type 0) (names : List Text) where
   -- the words of a line are this rule; `names` are the declared chains, in order
   pub record IsRuleLine (words : List Word) (rule : Spelled W) : Type 0 where
-    pub counter : List Word
-    pub counted : IsMaybeCounter counter
-    pub chain : Word
-    pub chain_is : chain.text ≡ rule.chain
     pub rest : List Word
-    pub whole : words ≡ counter ++ (bare (codes "-A") ∷ chain ∷ rest)
+    pub head : IsRuleHead words rule.chain rest
     pub target : List Word
     pub groups : List Group
     pub grouped : AreGroups None rest groups target
