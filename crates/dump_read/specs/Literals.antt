@@ -42,13 +42,7 @@ IsPattern text (Pattern.Exact name) = (text ≡ name) × ((front : Text) → tex
 abbrev pub IsEveryProtocol : Text → Type 0
 IsEveryProtocol text = (text ≡ codes "all") ⊎ (text ≡ codes "0")
 
-module _ {W : ℕ} (Reads : Text → ℕ → Type 0) where
-  -- the literal of an address option: a net with a mask that isn't a prefix is unknown
-  abbrev pub IsNetLiteral : (List Range → Prim_ W) → Text → Bool → Text → Lit (Prim_ W) → Type 0
-  IsNetLiteral prim text negated unknown (Lit.Known neg expr) = (value len : ℕ) × (IsNetText Reads W text (Net.Prefix value len)
-      × (neg ≡ negated) × (expr ≡ Prim (prim (prefix_range W value len ∷ []))))
-  IsNetLiteral prim text negated unknown (Lit.Unknown shown) = IsNetText Reads W text Net.Masked × (shown ≡ unknown)
-
+module _ {W : ℕ} where
   -- the literal of an interface option: a pattern of 1 to 255 bytes
   abbrev pub IsNameLiteral : (Pattern → Prim_ W) → Text → Bool → Lit (Prim_ W) → Type 0
   IsNameLiteral prim text negated literal = (pattern : Pattern) × (IsPattern text pattern × (1 ≤ length text) × (length text ≤ 255)
@@ -61,6 +55,13 @@ module _ {W : ℕ} (Reads : Text → ℕ → Type 0) where
       ⊎ ((n : ℕ) × (SpellsProto text n × (1 ≤ n) × (neg ≡ negated) × (expr ≡ Prim (Prim_.Proto n))))
   IsProtocolLiteral text negated unknown (Lit.Unknown shown) =
       (IsEveryProtocol text → ⊥) × ((n : ℕ) → SpellsProto text n → ⊥) × (shown ≡ unknown)
+
+module _ {W : ℕ} (Reads : Text → ℕ → Type 0) where
+  -- the literal of an address option: a net with a mask that isn't a prefix is unknown
+  abbrev pub IsNetLiteral : (List Range → Prim_ W) → Text → Bool → Text → Lit (Prim_ W) → Type 0
+  IsNetLiteral prim text negated unknown (Lit.Known neg expr) = (value len : ℕ) × (IsNetText Reads W text (Net.Prefix value len)
+      × (neg ≡ negated) × (expr ≡ Prim (prim (prefix_range W value len ∷ []))))
+  IsNetLiteral prim text negated unknown (Lit.Unknown shown) = IsNetText Reads W text Net.Masked × (shown ≡ unknown)
 
   -- the literal of a base group
   abbrev pub IsBaseLiteral : Bool → Text → List Text → Lit (Prim_ W) → Type 0
