@@ -7,3 +7,4 @@ pub mod OptionLemmas
 pub mod GroupLemmas
 pub mod DivisionLemmas
 pub mod LawLemmas
+pub mod ProtocolLemmas

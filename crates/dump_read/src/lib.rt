@@ -21,7 +21,7 @@ pub use division::groups;
 pub use grouping::{GroupWords, group};
 pub use heads::rule_head;
 pub use law::one_division;
-pub use literals::{input_literal, output_literal};
+pub use literals::{input_literal, output_literal, protocol_literal};
 pub use patterns::pattern;
 pub use ports::port_range;
 pub use states::state_list;
