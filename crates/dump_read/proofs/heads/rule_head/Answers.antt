@@ -1,4 +1,4 @@
-use Rattle.std.proofs.Common.{◌∷◌, ◌∙◌, [], List, ap, sym, refl, rules, arith}
+use Rattle.std.proofs.Common.{◌∷◌, ◌∙◌, [], List, ap, sym, refl, rules}
 use Rattle.dump_read.specs.Lines.{Word, word_of, words_of}
 use Rattle.dump_read.proofs.PolicyLemmas.{words_are}
 use Rattle.dump_read.proofs.heads.rule_head.Goals as goal
