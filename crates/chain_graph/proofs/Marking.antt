@@ -229,7 +229,7 @@ pub emptied : (s rest : List ℕ) (n : ℕ) → s ≡ rest ++ [] → rest ≡ ta
 emptied s rest n e f g = e ∙ ap (λ (z : List ℕ). z ++ []) (f ∙ ap (λ (k : ℕ). take (k - 1) s) g ∙ take_none s)
 
 module _ {P : Type 0} (dump : Dump P) (named : CallsNameChains dump) where
-  reach_inside : (a c : ℕ) → a < length dump.chains → Reaches dump a c → c < length dump.chains
+  pub reach_inside : (a c : ℕ) → a < length dump.chains → Reaches dump a c → c < length dump.chains
   reach_inside a c h Here = h
   reach_inside a c h (Over {b = k} q r) = reach_inside k c (named a k q) r
 

@@ -5,3 +5,5 @@ pub mod Faults
 pub mod Marks
 pub mod Tables
 pub mod Results
+pub mod Targets
+pub mod Refusals

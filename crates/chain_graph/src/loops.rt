@@ -8,7 +8,7 @@ use match_expr::Primitive;
 use std::alloc::{AllocError, Global};
 
 /// Whether a chain is marked.
-fn is_marked(marks: &[bool], chain: usize) -> bool
+pub(crate) fn is_marked(marks: &[bool], chain: usize) -> bool
     requires { chain < length marks.now }
     ensures { result ≡ get_or marks.now chain false }
 {
