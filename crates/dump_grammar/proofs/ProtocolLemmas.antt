@@ -1,0 +1,56 @@
+-- Protocol 0 is no protocol of its own.
+use Rattle.std.proofs.Common.{◌≡◌, ◌≤◌, ◌<◌, ◌∙◌, ℕ, zero, suc, List, [], ◌∷◌, Bool, true, false, ◌&&◌, Some, None, refl, arith, codes, inl, inr, decimal, subst, sym}
+use Rattle.std.specs.Prelude.{if◌then◌else◌, nat_lt}
+use Rattle.std.specs.Str.{bytes_eq}
+use Rattle.std.proofs.lemmas.Bool.Decides.{nat_tests}
+use Rattle.std.proofs.lemmas.Fmt.{decimal_digit, decimal_injective, decimal_is_IsNumeral}
+use Rattle.std.specs.Str.Parse.{AllDigits}
+use Rattle.fw_rule.specs.declared.rule.Lit.{Lit}
+use Rattle.primitives.specs.declared.prim.Prim_.{Prim_}
+use Rattle.primitives.specs.Words.{Named, SpellsProto, number_in, proto_names}
+use Rattle.dump_grammar.specs.Lines.{Text}
+use Rattle.dump_grammar.specs.Literals.{IsEveryProtocol, IsProtocolLiteral}
+
+abbrev are_positive : List Named → Bool
+are_positive [] = true
+are_positive (word ∷ words) = nat_lt 0 word.number && are_positive words
+
+number_positive : (words : List Named) (text : List ℕ) (n : ℕ) → are_positive words ≡ true → number_in words text ≡ Some n → 1 ≤ n
+number_positive [] text n h is = cc
+number_positive (word ∷ words) text n h is = by_cases (bytes_eq word.name text) refl (λ k. number_positive words text n (grind (arith, h)) k) is
+  where
+    by_cases : (c : Bool) → bytes_eq word.name text ≡ c → (number_in words text ≡ Some n → 1 ≤ n) →
+        (if c then Some word.number else number_in words text) ≡ Some n → 1 ≤ n
+    by_cases true e rest k = grind (arith, nat_tests, h, k)
+    by_cases false e rest k = rest k
+
+by_zero : (text : Text) (n : ℕ) → (IsEveryProtocol text → ⊥) → text ≡ decimal n → 1 ≤ n
+by_zero text zero other is = absurd (other (inr (is ∙ decimal_digit 0 (omega arith))))
+by_zero text (suc n) other is = omega arith
+
+-- another text than those for every protocol has a number from 1
+pub protocol_positive : (text : Text) (n : ℕ) → (IsEveryProtocol text → ⊥) → SpellsProto text n → 1 ≤ n
+protocol_positive text n other (inl is) = number_positive proto_names text n refl is
+protocol_positive text n other (inr is) = by_zero text n other is.1
+
+no_number : (n : ℕ) → n ≤ 255 → codes "all" ≡ decimal n → ⊥
+no_number n small is =
+    let digits : AllDigits 10 (codes "all") = subst (AllDigits 10) (sym is) (decimal_is_IsNumeral n (omega (arith, small))).0.1 in
+    let first : 10 < 10 = digits.0 in
+    omega (arith, first)
+
+every_only : (text : Text) (n : ℕ) → IsEveryProtocol text → 1 ≤ n → SpellsProto text n → ⊥
+every_only text n (inl is) some (inl spells) = let f : None ≡ Some n = subst (λ (t : Text). number_in proto_names t ≡ Some n) is spells in cc
+every_only text n (inr is) some (inl spells) = let f : None ≡ Some n = subst (λ (t : Text). number_in proto_names t ≡ Some n) is spells in cc
+every_only text n (inl is) some (inr spells) = no_number n spells.0 (sym is ∙ spells.1)
+every_only text n (inr is) some (inr spells) =
+    let small = spells.0 in
+    let e : n ≡ 0 = decimal_injective n 0 (omega (arith, small)) (omega arith) (sym spells.1 ∙ is ∙ sym (decimal_digit 0 (omega arith))) in
+    omega (arith, e, some)
+
+-- every protocol can't be negated
+pub never_negated : (W : ℕ) (text : Text) (negated : Bool) (unknown : Text) (l : Lit (Prim_ W)) → IsEveryProtocol text → negated ≡ true
+    → IsProtocolLiteral text negated unknown l → ⊥
+never_negated W text negated unknown (Lit.Known neg expr) every is (inl a) = let f : true ≡ false = sym is ∙ a.1 in cc
+never_negated W text negated unknown (Lit.Known neg expr) every is (inr a) = every_only text a.0 every a.1.1 a.1.0
+never_negated W text negated unknown (Lit.Unknown shown) every is a = a.0 every

@@ -1,0 +1,104 @@
+ghost use Rattle.std.specs.Prelude.{◌≡◌, ◌≤◌, ◌↔◌, ℕ, IfSome, IfNone, IfOk, IsTrue, length};
+ghost use Rattle.fw_rule.specs.declared.rule.Lit.{Lit as ALit};
+ghost use Rattle.primitives.specs.declared.prim.Prim_.{Prim_ as APrim};
+ghost use Rattle.primitives.specs.Words.{SpellsProto};
+ghost use Rattle.dump_grammar.specs.Literals.{IsEveryProtocol, IsNameLiteral, IsPattern, IsProtocolLiteral};
+
+use crate::patterns::pattern;
+use crate::pieces::is_same;
+use fw_rule::Lit;
+use match_expr::{Bytes, Expr};
+use name_set::Pattern;
+use primitives::{Prim_, ProtoNum, read_proto};
+use std::alloc::{AllocError, Global};
+
+fn short_pattern(alloc: Global, text: &[u8]) -> Result<Option<Pattern>, AllocError>
+    ensures some { IfOk result (λ o. IfSome o (λ p. IsPattern text.now p × (1 ≤ length text.now) × (length text.now ≤ 255))) }
+    ensures none { IfOk result (λ o. IfNone o (1 ≤ length text.now → length text.now ≤ 255 → ⊥)) }
+{
+    if text.is_empty() || text.len() > 255 {
+        return Ok(None);
+    }
+    Ok(Some(pattern(alloc, text)?))
+}
+
+/// The literal of `-i` with this argument, which has 1 to 255 bytes; None exactly where it hasn't.
+pub fn input_literal<const W: u32>(
+    alloc: Global,
+    text: &[u8],
+    negated: bool,
+) -> Result<Option<Lit<Prim_<W>>>, AllocError>
+    ensures some { IfOk result (λ o. IfSome o (λ l. IsNameLiteral APrim.InName text.now negated l)) }
+    ensures none { IfOk result (λ o. IfNone o ((l : ALit (APrim W)) → IsNameLiteral APrim.InName text.now negated l → ⊥)) }
+{
+    match short_pattern(alloc, text)? {
+        Some(pattern) => Ok(Some(Lit::Known {
+            neg: negated,
+            expr: Expr::Prim(Prim_::InName(pattern)),
+        })),
+        None => Ok(None),
+    }
+}
+
+/// The literal of `-o` with this argument, which has 1 to 255 bytes; None exactly where it hasn't.
+pub fn output_literal<const W: u32>(
+    alloc: Global,
+    text: &[u8],
+    negated: bool,
+) -> Result<Option<Lit<Prim_<W>>>, AllocError>
+    ensures some { IfOk result (λ o. IfSome o (λ l. IsNameLiteral APrim.OutName text.now negated l)) }
+    ensures none { IfOk result (λ o. IfNone o ((l : ALit (APrim W)) → IsNameLiteral APrim.OutName text.now negated l → ⊥)) }
+{
+    match short_pattern(alloc, text)? {
+        Some(pattern) => Ok(Some(Lit::Known {
+            neg: negated,
+            expr: Expr::Prim(Prim_::OutName(pattern)),
+        })),
+        None => Ok(None),
+    }
+}
+
+fn is_every_protocol(text: &[u8]) -> bool
+    ensures { IsTrue result ↔ IsEveryProtocol text.now }
+{
+    is_same(text, b"all") || is_same(text, b"0")
+}
+
+fn protocol_number(text: &[u8]) -> Option<ProtoNum>
+    requires { IsEveryProtocol text.now → ⊥ }
+    ensures some { IfSome result (λ n. SpellsProto text.now n × (1 ≤ n)) }
+    ensures none { IfNone result ((n : ℕ) → SpellsProto text.now n → ⊥) }
+{
+    match read_proto(text) {
+        Some(number) => Some(ProtoNum { number }),
+        None => None,
+    }
+}
+
+/// The literal of `-p` with this argument; `unknown` is the text of the group. None comes exactly where every protocol is
+/// negated.
+pub fn protocol_literal<const W: u32>(
+    text: &[u8],
+    negated: bool,
+    unknown: Bytes,
+) -> Option<Lit<Prim_<W>>>
+    ensures some { IfSome result (λ l. IsProtocolLiteral text.now negated unknown l) }
+    ensures none { IfNone result ((l : ALit (APrim W)) → IsProtocolLiteral text.now negated unknown l → ⊥) }
+{
+    if is_every_protocol(text) {
+        if negated {
+            return None;
+        }
+        return Some(Lit::Known {
+            neg: false,
+            expr: Expr::Prim(Prim_::Always),
+        });
+    }
+    match protocol_number(text) {
+        Some(number) => Some(Lit::Known {
+            neg: negated,
+            expr: Expr::Prim(Prim_::Proto(number)),
+        }),
+        None => Some(Lit::Unknown(unknown)),
+    }
+}
