@@ -4,7 +4,7 @@ use Rattle.std.proofs.lemmas.List.{length-map}
 use Rattle.dump_token.specs.declared.token.Token.{Token}
 use Rattle.dump_grammar.specs.declared.grouping.GroupWords.{GroupWords}
 use Rattle.dump_grammar.specs.GroupWords.{group_of, groups_of}
-use Rattle.dump_grammar.specs.Groups.{AreGroups, EndsGroups, Group, Base, Module, Named, IsGroup, current_after, mark_words}
+use Rattle.dump_grammar.specs.Groups.{AreGroups, EndsGroups, Group, Base, Module, ModuleOption, IsGroup, current_after, mark_words}
 use Rattle.dump_grammar.specs.Lines.{Text, Word, bare, word_of, words_of}
 use Rattle.dump_grammar.proofs.GroupLemmas.{one_group}
 
@@ -64,7 +64,7 @@ marked false w a b = omega (arith, length-append a b)
 group_shorter : (current : Option Text) (words : List Word) (g : Group) (rest : List Word) → IsGroup current words g rest → length rest < length words
 group_shorter current words (Base n o a) rest is = subst (λ (ws : List Word). length rest < length ws) (sym is.1.0) (marked n (bare o) is.0 rest)
 group_shorter current words (Module name) rest is = let e = ap length is.1.0 in omega (arith, e)
-group_shorter current words (Named m n o a) rest is = subst (λ (ws : List Word). length rest < length ws) (sym is.1.0) (marked n (bare o) is.0 rest)
+group_shorter current words (ModuleOption m n o a) rest is = subst (λ (ws : List Word). length rest < length ws) (sym is.1.0) (marked n (bare o) is.0 rest)
 
 pub shorter : (current : Option Text) (words rest : List Token) (g : Group) → IsGroup current (words_of words) g (words_of rest) → length rest < length words
 shorter current words rest g is =

@@ -4,7 +4,7 @@ use Rattle.std.specs.List.{AllByRecursion}
 use Rattle.std.specs.Str.{bytes_eq}
 use Rattle.std.proofs.lemmas.Slice.Eq.{bytes_eq-Decides}
 use Rattle.dump_grammar.specs.ChainLines.{is_among}
-use Rattle.dump_grammar.specs.Groups.{BeginsWithStop, Group, Base, Module, Named, IsGroup, IsOptionName, Takes, arity_in, arity_of, base_options, begins_with_dashes, mark_words, stops}
+use Rattle.dump_grammar.specs.Groups.{BeginsWithStop, Group, Base, Module, ModuleOption, IsGroup, IsOptionName, Takes, arity_in, arity_of, base_options, begins_with_dashes, mark_words, stops}
 use Rattle.dump_grammar.specs.Lines.{Text, Word, bare, texts}
 
 pub if_some : {A : Type 0} (r : Option A) (P Q : A → Type 0) → IfSome r P → ((x : A) → P x → Q x) → IfSome r Q
@@ -61,14 +61,14 @@ pub group_front : (current : Option Text) (words : List Word) (g : Group) (rest 
     → (negated : Bool) × (option : Text) × (more : List Word) × (option ≢ codes "!") × (words ≡ mark_words negated ++ bare option ∷ more)
 group_front current words (Base negated option arguments) rest is = (negated, option, is.0 ++ rest, base_mark option is.1.1, is.1.0)
 group_front current words (Module name) rest is = (false, codes "-m", is.0 ∷ rest, module_mark (codes "-m") refl, is.1.0)
-group_front current words (Named named negated option arguments) rest is = (negated, option, is.0 ++ rest, option_mark option is.1.2, is.1.0)
+group_front current words (ModuleOption named negated option arguments) rest is = (negated, option, is.0 ++ rest, option_mark option is.1.2, is.1.0)
 
 -- the same group, told by the option at its front and the words after it
 abbrev pub GroupAt : Option Text → Bool → Text → List Word → Group → List Word → Type 0
 GroupAt current negated option more (Base n o a) rest =
     (is_among base_options option ≡ true) × ((taken : List Word) × ((more ≡ taken ++ rest) × (arity_of [] option ≡ Some (length taken))))
 GroupAt current negated option more (Module name) rest = (option ≡ codes "-m") × (negated ≡ false) × ((value : Word) × (more ≡ value ∷ rest))
-GroupAt current negated option more (Named m n o a) rest =
+GroupAt current negated option more (ModuleOption m n o a) rest =
     IsOptionName option × ((taken : List Word) × ((more ≡ taken ++ rest) × Takes (arity_in current option) taken rest))
 
 pub group_at : (current : Option Text) (words : List Word) (negated : Bool) (option : Text) (more : List Word) (g : Group) (rest : List Word)
@@ -79,7 +79,7 @@ group_at current words negated option more (Base n o a) rest whole other is =
 group_at current words negated option more (Module name) rest whole other is =
     let once = mark_once negated false option (codes "-m") more (is.0 ∷ rest) other (module_mark (codes "-m") refl) (sym whole ∙ is.1.0) in
     (once.1, once.0, (is.0, once.2))
-group_at current words negated option more (Named m n o a) rest whole other is =
+group_at current words negated option more (ModuleOption m n o a) rest whole other is =
     let once = mark_once negated n option o more (is.0 ++ rest) other (option_mark o is.1.2) (sym whole ∙ is.1.0) in
     (subst IsOptionName (sym once.1) is.1.2, (is.0, (once.2, subst (λ (t : Text). Takes (arity_in current t) is.0 rest) (sym once.1) is.1.3)))
 
@@ -87,21 +87,21 @@ pub only_module : (current : Option Text) (negated : Bool) (option : Text) (more
     → option ≡ codes "-m" → GroupAt current negated option more g rest → (negated ≡ false) × ((value : Word) × (more ≡ value ∷ rest))
 only_module current negated option more (Base n o a) rest is at = absurd (module_no_base option is at.0)
 only_module current negated option more (Module name) rest is at = (at.1, at.2)
-only_module current negated option more (Named m n o a) rest is at = absurd (module_no_option option is at.0)
+only_module current negated option more (ModuleOption m n o a) rest is at = absurd (module_no_option option is at.0)
 
 pub only_base : (current : Option Text) (negated : Bool) (option : Text) (more : List Word) (g : Group) (rest : List Word)
     → is_among base_options option ≡ true → GroupAt current negated option more g rest
     → (taken : List Word) × ((more ≡ taken ++ rest) × (arity_of [] option ≡ Some (length taken)))
 only_base current negated option more (Base n o a) rest is at = at.1
 only_base current negated option more (Module name) rest is at = absurd (module_no_base option at.0 is)
-only_base current negated option more (Named m n o a) rest is at = absurd (base_plain option is at.0)
+only_base current negated option more (ModuleOption m n o a) rest is at = absurd (base_plain option is at.0)
 
 pub only_named : (current : Option Text) (negated : Bool) (option : Text) (more : List Word) (g : Group) (rest : List Word)
     → (option ≡ codes "-m" → ⊥) → (is_among base_options option ≡ true → ⊥) → GroupAt current negated option more g rest
     → IsOptionName option × ((taken : List Word) × ((more ≡ taken ++ rest) × Takes (arity_in current option) taken rest))
 only_named current negated option more (Base n o a) rest no_module no_base at = absurd (no_base at.0)
 only_named current negated option more (Module name) rest no_module no_base at = absurd (no_module at.0)
-only_named current negated option more (Named m n o a) rest no_module no_base at = at
+only_named current negated option more (ModuleOption m n o a) rest no_module no_base at = at
 
 -- words are parted in one way by how many come first
 cut_once : (a b x y : List Word) → a ++ b ≡ x ++ y → length a ≡ length x → (a ≡ x) × (b ≡ y)
@@ -146,7 +146,7 @@ one_group current words (Base n o a) rest (Base m p b) end is same =
 one_group current words (Base n o a) rest (Module name) end is same =
     let once = mark_once n false o (codes "-m") (is.0 ++ rest) (same.0 ∷ end) (base_mark o is.1.1) (module_mark (codes "-m") refl) (sym is.1.0 ∙ same.1.0) in
     absurd (module_no_base o once.1 is.1.1)
-one_group current words (Base n o a) rest (Named k m p b) end is same =
+one_group current words (Base n o a) rest (ModuleOption k m p b) end is same =
     let once = mark_once n m o p (is.0 ++ rest) (same.0 ++ end) (base_mark o is.1.1) (option_mark p same.1.2) (sym is.1.0 ∙ same.1.0) in
     absurd (base_plain o is.1.1 (subst IsOptionName (sym once.1) same.1.2))
 one_group current words (Module name) rest (Base m p b) end is same =
@@ -158,16 +158,16 @@ one_group current words (Module name) rest (Module other) end is same =
     let word : is.0 ≡ same.0 = cc in
     let named : name ≡ other = sym is.1.1 ∙ ap (λ (w : Word). w.text) word ∙ same.1.1 in
     (ap Module named, let f : rest ≡ end = cc in f)
-one_group current words (Module name) rest (Named k m p b) end is same =
+one_group current words (Module name) rest (ModuleOption k m p b) end is same =
     let once = mark_once false m (codes "-m") p (is.0 ∷ rest) (same.0 ++ end) (module_mark (codes "-m") refl) (option_mark p same.1.2) (sym is.1.0 ∙ same.1.0) in
     absurd (module_no_option p (sym once.1) same.1.2)
-one_group current words (Named c n o a) rest (Base m p b) end is same =
+one_group current words (ModuleOption c n o a) rest (Base m p b) end is same =
     let once = mark_once n m o p (is.0 ++ rest) (same.0 ++ end) (option_mark o is.1.2) (base_mark p same.1.1) (sym is.1.0 ∙ same.1.0) in
     absurd (base_plain p same.1.1 (subst IsOptionName once.1 is.1.2))
-one_group current words (Named c n o a) rest (Module name) end is same =
+one_group current words (ModuleOption c n o a) rest (Module name) end is same =
     let once = mark_once n false o (codes "-m") (is.0 ++ rest) (same.0 ∷ end) (option_mark o is.1.2) (module_mark (codes "-m") refl) (sym is.1.0 ∙ same.1.0) in
     absurd (module_no_option o once.1 is.1.2)
-one_group current words (Named c n o a) rest (Named k m p b) end is same =
+one_group current words (ModuleOption c n o a) rest (ModuleOption k m p b) end is same =
     let once = mark_once n m o p (is.0 ++ rest) (same.0 ++ end) (option_mark o is.1.2) (option_mark p same.1.2) (sym is.1.0 ∙ same.1.0) in
     let cut = takes_once (arity_in current o) is.0 rest same.0 end once.2 is.1.3 (subst (λ (t : Text). Takes (arity_in current t) same.0 end) (sym once.1) same.1.3) in
     let args : a ≡ b = sym is.1.4 ∙ ap texts cut.0 ∙ same.1.4 in

@@ -1,7 +1,7 @@
 -- Some words are groups and a target in one way.
 use Rattle.std.proofs.Common.{◌≡◌, ◌∙◌, ◌++◌, ◌∷◌, [], List, Bool, true, false, Option, refl, sym, ap, subst, codes, inl, inr}
 use Rattle.dump_grammar.specs.ChainLines.{is_among}
-use Rattle.dump_grammar.specs.Groups.{AreGroups, EndsGroups, Group, Base, Module, Named, IsGroup, IsOptionName, base_options, begins_with_dashes, current_after, mark_words}
+use Rattle.dump_grammar.specs.Groups.{AreGroups, EndsGroups, Group, Base, Module, ModuleOption, IsGroup, IsOptionName, base_options, begins_with_dashes, current_after, mark_words}
 use Rattle.dump_grammar.specs.Lines.{Text, Word, bare}
 use Rattle.dump_grammar.proofs.GroupLemmas.{one_group}
 
@@ -25,7 +25,7 @@ ends_no_group current words (Base n o a) rest is ends =
     no_end n o (is.0 ++ rest) (base_no o (codes "-j") is.1.1 refl) (base_no o (codes "-g") is.1.1 refl) (subst EndsGroups is.1.0 ends)
 ends_no_group current words (Module name) rest is ends =
     no_end false (codes "-m") (is.0 ∷ rest) (module_no (codes "-j") refl) (module_no (codes "-g") refl) (subst EndsGroups is.1.0 ends)
-ends_no_group current words (Named m n o a) rest is ends =
+ends_no_group current words (ModuleOption m n o a) rest is ends =
     no_end n o (is.0 ++ rest) (option_no o (codes "-j") is.1.2 refl) (option_no o (codes "-g") is.1.2 refl) (subst EndsGroups is.1.0 ends)
 
 pub one_division_of : (current : Option Text) (words : List Word) (groups others : List Group) (target end : List Word) → AreGroups current words groups target

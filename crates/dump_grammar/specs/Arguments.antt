@@ -13,16 +13,16 @@ use Rattle.addr_text.specs.Nets.{IsRangeText}
 use Rattle.dump_grammar.specs.Lines.{Text}
 use Rattle.dump_grammar.specs.Groups.{Group, Base}
 
--- the number with this bit alone
+-- the number in which the bit of this place alone is set, where there is a place
 abbrev pub bit_of : Option ℕ → Option ℕ
 bit_of None = None
 bit_of (Some state) = Some (2 ^ state)
 
--- the bit of the state of that name
+-- the number with the bit of the state of that name, where the text is one
 unfoldable pub state_of : Text → Option ℕ
 state_of text = bit_of (number_in state_names text)
 
--- a port, or FIRST:LAST
+-- a port, or FIRST:LAST where FIRST isn't above LAST; ports are below 2^16
 abbrev pub IsPortRange : Text → Range → Type 0
 IsPortRange text r = (r.hi < 2 ^ 16) ×
     (((text ≡ decimal r.lo) × (r.lo ≡ r.hi)) ⊎ ((text ≡ decimal r.lo ++ 58 ∷ decimal r.hi) × (r.lo ≤ r.hi)))
@@ -33,45 +33,47 @@ ArePortRanges [] [] = Unit {0}
 ArePortRanges (text ∷ texts) (r ∷ rs) = IsPortRange text r × ArePortRanges texts rs
 ArePortRanges texts rs = ⊥
 
--- a range with its colon counts two, also where it is one port
+-- how much the parts of a list of ports count: one with a colon counts two, also where it is one port, and another counts one
 abbrev pub weight : List Text → ℕ
 weight [] = 0
 weight (text ∷ texts) = (if list_any (λ b. b == 58) text then 2 else 1) + weight texts
 
--- a list of ports and ranges with commas between them, at most 15; `rs` are its ranges as they stand
+-- ports and ranges of ports with commas between them, which count 15 at most; `rs` are the ranges in their order
 abbrev pub IsPortList : Text → List Range → Type 0
 IsPortList text rs = ArePortRanges (slice_split (λ b. b == 44) text) rs × (weight (slice_split (λ b. b == 44) text) ≤ 15)
 
--- the number of the protocol that the line's `-p` names without `!`, where that protocol has ports
+-- a `-p` of the line without `!` names the protocol of this number, and that protocol has ports
 abbrev pub LineProtocol : List Group → ℕ → Type 0
 LineProtocol groups n = (name : Text) × (Contains groups (Base false (codes "-p") (name ∷ [])) × SpellsProto name n × HasPorts n)
 
 module _ {W : ℕ} where
+  -- the protocol of this number, and a source port in one of the ranges
   abbrev pub source_ports : ℕ → List Range → Expr (Prim_ W)
   source_ports n rs = Prim (Prim_.SrcPorts (record { proto = n; set = ranges_where (has rs) (2 ^ 16) }))
 
+  -- the same of the destination port
   abbrev pub destination_ports : ℕ → List Range → Expr (Prim_ W)
   destination_ports n rs = Prim (Prim_.DstPorts (record { proto = n; set = ranges_where (has rs) (2 ^ 16) }))
 
-  -- one of the two ports is in the list: not neither
+  -- the protocol of this number, and one of the two ports in one of the ranges: not neither
   abbrev pub either_port : ℕ → List Range → Expr (Prim_ W)
   either_port n rs = Not (All (Not (source_ports n rs) ∷ Not (destination_ports n rs) ∷ []))
 
--- the module whose options are about ports of its own protocol
+-- the module tcp or udp, and the number of its protocol
 abbrev pub IsPortModule : Text → ℕ → Type 0
 IsPortModule name n = ((name ≡ codes "tcp") × (n ≡ 6)) ⊎ ((name ≡ codes "udp") × (n ≡ 17))
 
--- the states that the parts name together, as bits, where each part is a state's name
+-- the number in which the bits of the states that the parts name are set, where each part is a state's name
 abbrev pub states_of : List Text → Option ℕ
 states_of [] = Some 0
 states_of (part ∷ parts) = flags_of_both (state_of part) (states_of parts)
 
--- a list of states with commas between them
+-- names of states with commas between them, whose bits are these
 abbrev pub IsStateList : Text → ℕ → Type 0
 IsStateList text states = states_of (slice_split (λ b. b == 44) text) ≡ Some states
 
--- What the arguments of an option say, one constructor a row of the table. `Reads` says which text is which address;
--- `groups` are all groups of the line.
+-- What an option of the module `current` says with these arguments, one constructor a kind of option. `Reads` says which text is
+-- which address; `groups` are all groups of the line.
 module _ {W : ℕ} (Reads : Text → ℕ → Type 0) (groups : List Group) where
   pub data Says (current option : Text) (arguments : List Text) (negated : Bool) (expr : Expr (Prim_ W)) : Type 0 where
     source_port : (n : ℕ) (text : Text) (r : Range) → IsPortModule current n → option ≡ codes "--sport" → arguments ≡ text ∷ [] →
@@ -80,7 +82,7 @@ module _ {W : ℕ} (Reads : Text → ℕ → Type 0) (groups : List Group) where
         IsPortRange text r → expr ≡ destination_ports n (r ∷ []) → Says current option arguments negated expr
     tcp_flags : (mask comp : Text) (m c : ℕ) → current ≡ codes "tcp" → option ≡ codes "--tcp-flags" → arguments ≡ mask ∷ comp ∷ [] →
         SpellsFlags mask m → SpellsFlags comp c → expr ≡ Prim (Prim_.Flags m c) → Says current option arguments negated expr
-    syn : current ≡ codes "tcp" → option ≡ codes "--syn" → expr ≡ Prim (Prim_.Flags 23 2) → Says current option arguments negated expr
+    syn : current ≡ codes "tcp" → option ≡ codes "--syn" → arguments ≡ [] → expr ≡ Prim (Prim_.Flags 23 2) → Says current option arguments negated expr
     source_port_list : (n : ℕ) (text : Text) (rs : List Range) → current ≡ codes "multiport" → option ≡ codes "--sports" → arguments ≡ text ∷ [] →
         LineProtocol groups n → IsPortList text rs → expr ≡ source_ports n rs → Says current option arguments negated expr
     destination_port_list : (n : ℕ) (text : Text) (rs : List Range) → current ≡ codes "multiport" → option ≡ codes "--dports" → arguments ≡ text ∷ [] →

@@ -36,6 +36,7 @@ IsMaybeCounter [] = Unit {0}
 IsMaybeCounter (word ∷ []) = IsCounter word
 IsMaybeCounter (word ∷ next ∷ words) = ⊥
 
+-- the names of the built-in chains
 abbrev pub built_in : List Text
 built_in = codes "INPUT" ∷ codes "FORWARD" ∷ codes "OUTPUT" ∷ []
 
@@ -47,12 +48,14 @@ passing = codes "LOG" ∷ codes "NFLOG" ∷ codes "ULOG" ∷ codes "MARK" ∷ co
 abbrev pub target_words : List Text
 target_words = codes "ACCEPT" ∷ codes "DROP" ∷ codes "REJECT" ∷ codes "RETURN" ∷ passing
 
+-- the word of a policy, and `-` where there is none
 abbrev pub policy_text : Option Verdict → Text
 policy_text (Some Verdict.Accept) = codes "ACCEPT"
 policy_text (Some Verdict.Drop) = codes "DROP"
 policy_text None = codes "-"
 
--- the words declare the chain
+-- the words declare the chain: `:NAME` with a name that is no target's word, a policy where the chain is a built-in one and `-` where it
+-- isn't, and perhaps a counter
 pub record IsChainLine (words : List Word) (chain : Declared) : Type 0 where
   pub counter : List Word
   pub counted : IsMaybeCounter counter

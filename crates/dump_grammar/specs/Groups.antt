@@ -7,12 +7,13 @@ use Rattle.opt_table.specs.Options.{known_options}
 use Rattle.dump_grammar.specs.Lines.{Text, Word, bare, texts}
 use Rattle.dump_grammar.specs.ChainLines.{is_among}
 
--- a match of the base, a module that is named, or an option of the module that was named last, if one was
+-- an option that needs no module, a module that is named, or an option of the module that was named last, if one was
 pub data Group : Type 0 where
   Base : (negated : Bool) (option : Text) (arguments : List Text) → Group
   Module : (name : Text) → Group
-  Named : (current : Option Text) (negated : Bool) (option : Text) (arguments : List Text) → Group
+  ModuleOption : (current : Option Text) (negated : Bool) (option : Text) (arguments : List Text) → Group
 
+-- the options that need no module
 abbrev pub base_options : List Text
 base_options = codes "-s" ∷ codes "-d" ∷ codes "-i" ∷ codes "-o" ∷ codes "-p" ∷ codes "-f" ∷ []
 
@@ -21,37 +22,40 @@ abbrev pub mark : Bool → List Text
 mark true = codes "!" ∷ []
 mark false = []
 
+-- the same as a word
 abbrev pub mark_words : Bool → List Word
 mark_words true = bare (codes "!") ∷ []
 mark_words false = []
 
+-- whether the text begins with `--`
 abbrev pub begins_with_dashes : Text → Bool
 begins_with_dashes text = starts_with nat_eq text (codes "--")
 
--- an unquoted word that ends the arguments of an option without a row
+-- whether a word ends the arguments of an option without a row: it is unquoted and begins with `--`, or is one of these
 abbrev pub stops : Word → Bool
 stops word = not word.quoted && (begins_with_dashes word.text
     || is_among (codes "!" ∷ codes "-m" ∷ codes "-j" ∷ codes "-g" ∷ base_options) word.text)
 
+-- nothing stands there, or such a word comes first
 abbrev pub BeginsWithStop : List Word → Type 0
 BeginsWithStop [] = Unit {0}
 BeginsWithStop (word ∷ words) = stops word ≡ true
 
--- how many arguments these rows give the option of the module, where one of them is its row
+-- how many arguments the first row of this module and option says, where there is one
 abbrev pub arity_in_rows : List Spelling → Text → Text → Option ℕ
 arity_in_rows [] name option = None
 arity_in_rows (row ∷ rows) name option = if bytes_eq row.name name && bytes_eq row.option option then Some row.arity else arity_in_rows rows name option
 
--- the same in the table of options; base options have no module's name
+-- the same in the table of options, where an option that needs no module stands under the empty name
 unfoldable pub arity_of : Text → Text → Option ℕ
 arity_of name option = arity_in_rows known_options name option
 
--- whether some option of the module has a row
+-- whether the name isn't empty and some option of the module has a row
 abbrev pub is_known_module : Text → Bool
 is_known_module [] = false
 is_known_module (b ∷ bs) = list_any (λ (row : Spelling). bytes_eq row.name (b ∷ bs)) known_options
 
--- how many arguments an option takes after the module that was named last, where it has a row; `base` options are no module's
+-- how many arguments an option of the module that was named last takes, where one was named and the option has a row
 abbrev pub arity_in : Option Text → Text → Option ℕ
 arity_in None option = None
 arity_in (Some name) option = arity_of name option
@@ -61,16 +65,17 @@ abbrev pub Takes : Option ℕ → List Word → List Word → Type 0
 Takes (Some count) taken rest = length taken ≡ count
 Takes None taken rest = AllByRecursion (λ word. stops word ≡ false) taken × BeginsWithStop rest
 
+-- `--` and one byte more at least
 abbrev pub IsOptionName : Text → Type 0
 IsOptionName text = (begins_with_dashes text ≡ true) × (3 ≤ length text)
 
--- the group stands at the front of the words and `rest` follows it, where `current` is the module that was named last
+-- the group stands at the front of the words and `rest` follows it, where `current` is the module that was named last, if one was
 abbrev pub IsGroup : Option Text → List Word → Group → List Word → Type 0
 IsGroup current words (Base negated option arguments) rest =
     (taken : List Word) × ((words ≡ mark_words negated ++ bare option ∷ (taken ++ rest)) × (is_among base_options option ≡ true)
     × (arity_of [] option ≡ Some (length taken)) × (texts taken ≡ arguments))
 IsGroup current words (Module name) rest = (value : Word) × ((words ≡ bare (codes "-m") ∷ value ∷ rest) × (value.text ≡ name))
-IsGroup current words (Named module' negated option arguments) rest =
+IsGroup current words (ModuleOption module' negated option arguments) rest =
     (taken : List Word) × ((words ≡ mark_words negated ++ bare option ∷ (taken ++ rest)) × (module' ≡ current) × IsOptionName option
     × Takes (arity_in current option) taken rest × (texts taken ≡ arguments))
 
@@ -78,7 +83,7 @@ IsGroup current words (Named module' negated option arguments) rest =
 abbrev pub current_after : Option Text → Group → Option Text
 current_after current (Base negated option arguments) = current
 current_after current (Module name) = Some name
-current_after current (Named module' negated option arguments) = current
+current_after current (ModuleOption module' negated option arguments) = current
 
 -- the words are these groups one after another, and then `target`
 abbrev pub AreGroups : Option Text → List Word → List Group → List Word → Type 0
@@ -91,12 +96,12 @@ abbrev pub EndsGroups : List Word → Type 0
 EndsGroups [] = Unit {0}
 EndsGroups (word ∷ words) = (word ≡ bare (codes "-j")) ⊎ (word ≡ bare (codes "-g"))
 
--- the options of the base groups
+-- the options of the groups that need no module, in order
 abbrev pub base_of : List Group → List Text
 base_of [] = []
 base_of (Base negated option arguments ∷ groups) = option ∷ base_of groups
 base_of (Module name ∷ groups) = base_of groups
-base_of (Named current negated option arguments ∷ groups) = base_of groups
+base_of (ModuleOption current negated option arguments ∷ groups) = base_of groups
 
 -- no text stands twice
 abbrev pub all_differ : List Text → Bool

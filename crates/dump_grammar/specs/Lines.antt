@@ -11,7 +11,7 @@ Text = List ℕ
 abbrev pub IsLine : Text → Type 0
 IsLine line = AllByRecursion (λ b. b ≢ 10) line
 
--- the text is these lines: each ends at a line feed, but for a last one that isn't empty
+-- the text is these lines: a line feed follows each, and may be missing after the last one where that isn't empty
 abbrev pub AreLines : List Text → Text → Type 0
 AreLines [] text = text ≡ []
 AreLines (line ∷ lines) text =

@@ -12,28 +12,29 @@ use Rattle.addr_text.specs.Nets.{IsNetText}
 use Rattle.fw_rule.specs.declared.rule.Lit.{Lit}
 use Rattle.addr_text.specs.declared.net.Net.{Net}
 use Rattle.dump_grammar.specs.Lines.{Text}
-use Rattle.dump_grammar.specs.Groups.{Group, Base, Module, Named, mark, is_known_module}
+use Rattle.dump_grammar.specs.Groups.{Group, Base, Module, ModuleOption, mark, is_known_module}
 use Rattle.dump_grammar.specs.Arguments.{Says}
 
--- the module that was named last, where there is one
+-- `-m` and the module, where there is one
 abbrev pub module_text : Option Text → List Text
 module_text None = []
 module_text (Some name) = codes "-m" ∷ name ∷ []
 
--- the text of a group that isn't understood: its words with one space between them; the module stands in front where there is one
+-- the text by which a group that isn't understood is known: its words without quotes and with one space between them; in front of an
+-- option of a module stand `-m` and that module
 abbrev pub text_of : Group → Text
 text_of (Base negated option arguments) = join_with_byte 32 (mark negated ++ option ∷ arguments)
 text_of (Module name) = join_with_byte 32 (codes "-m" ∷ name ∷ [])
-text_of (Named current negated option arguments) = join_with_byte 32 (module_text current ++ (mark negated ++ option ∷ arguments))
+text_of (ModuleOption current negated option arguments) = join_with_byte 32 (module_text current ++ (mark negated ++ option ∷ arguments))
 
--- whether an option follows before the next module is named
+-- whether an option of a module follows before the next module is named
 abbrev pub option_follows : List Group → Bool
 option_follows [] = false
 option_follows (Base negated option arguments ∷ groups) = option_follows groups
 option_follows (Module name ∷ groups) = false
-option_follows (Named current negated option arguments ∷ groups) = true
+option_follows (ModuleOption current negated option arguments ∷ groups) = true
 
--- the name of an interface, or with `+` at its end every name that begins with what stands before
+-- the name of an interface, or where it ends in `+` every name that begins with what stands before that `+`
 abbrev pub IsPattern : Text → Pattern → Type 0
 IsPattern text (Pattern.Prefix front) = text ≡ front ++ codes "+"
 IsPattern text (Pattern.Exact name) = (text ≡ name) × ((front : Text) → text ≡ front ++ codes "+" → ⊥)
@@ -79,7 +80,7 @@ module _ {W : ℕ} (Reads : Text → ℕ → Type 0) (groups : List Group) where
   IsOptionLiteral current negated option arguments (Lit.Known neg expr) =
       (name : Text) × ((current ≡ Some name) × (neg ≡ negated) × Says Reads groups name option arguments negated expr)
   IsOptionLiteral current negated option arguments (Lit.Unknown shown) =
-      (shown ≡ text_of (Named current negated option arguments))
+      (shown ≡ text_of (ModuleOption current negated option arguments))
       × ((name : Text) (expr : Expr (Prim_ W)) → current ≡ Some name → Says Reads groups name option arguments negated expr → ⊥)
 
   -- a module without a row is unknown itself, unless an option follows before the next module is named
@@ -93,5 +94,5 @@ module _ {W : ℕ} (Reads : Text → ℕ → Type 0) (groups : List Group) where
       ((literals ≡ literal ∷ rest) × IsBaseLiteral Reads negated option arguments literal × AreLiterals after rest)
   AreLiterals (Module name ∷ after) literals = (rest : List (Lit (Prim_ W))) ×
       ((literals ≡ modules_literals name after ++ rest) × AreLiterals after rest)
-  AreLiterals (Named current negated option arguments ∷ after) literals = (literal : Lit (Prim_ W)) × (rest : List (Lit (Prim_ W))) ×
+  AreLiterals (ModuleOption current negated option arguments ∷ after) literals = (literal : Lit (Prim_ W)) × (rest : List (Lit (Prim_ W))) ×
       ((literals ≡ literal ∷ rest) × IsOptionLiteral current negated option arguments literal × AreLiterals after rest)

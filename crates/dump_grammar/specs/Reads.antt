@@ -8,7 +8,7 @@ use Rattle.fw_rule.specs.declared.rule.Dump.{Dump}
 use Rattle.dump_grammar.specs.Lines.{Text, AreLines, numbered_from}
 use Rattle.dump_grammar.specs.declared.chains.Declared.{Declared}
 use Rattle.dump_grammar.specs.ChainLines.{is_among}
-use Rattle.dump_grammar.specs.Tables.{Table, AreTables, IsFilter, IsFilterBody, Placed, names_of, IsBadLine}
+use Rattle.dump_grammar.specs.Tables.{DumpTable, AreTables, IsFilter, IsFilterBody, Placed, names_of, IsBadLine}
 
 module _ {W : ℕ} where
   abbrev pub rule_of : Placed W → Rule (Prim_ W)
@@ -29,9 +29,9 @@ module _ (W : ℕ) (Reads : Text → ℕ → Type 0) where
   pub record HasFilter (text : Text) (chains : List Declared) (rules : List (Placed W)) : Type 0 where
     pub lines : List Text
     pub parted : AreLines lines text
-    pub tables : List Table
+    pub tables : List DumpTable
     pub tabled : AreTables W Reads (numbered_from 1 lines) tables
-    pub table : Table
+    pub table : DumpTable
     pub there : Contains tables table
     pub is_filter : IsFilter table
     pub inside : IsFilterBody W Reads table.body chains rules
@@ -63,7 +63,7 @@ module _ (W : ℕ) (Reads : Text → ℕ → Type 0) where
   pub record HasNoFilter (text : Text) : Type 0 where
     pub lines : List Text
     pub parted : AreLines lines text
-    pub tables : List Table
+    pub tables : List DumpTable
     pub tabled : AreTables W Reads (numbered_from 1 lines) tables
     pub none : AllByRecursion (λ t. IsFilter t → ⊥) tables
 

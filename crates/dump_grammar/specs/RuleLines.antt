@@ -1,19 +1,11 @@
 -- Rule lines: `[counter] -A CHAIN`, groups, and perhaps a target.
 use Rattle.std.specs.Prelude.{ℕ, ◌≡◌, true, List, ◌∷◌, ◌++◌, None, codes}
-use Rattle.primitives.specs.declared.prim.Prim_.{Prim_}
-use Rattle.fw_rule.specs.declared.rule.Action.{Action}
-use Rattle.fw_rule.specs.declared.rule.Lit.{Lit}
+use Rattle.dump_grammar.specs.declared.rule.RuleLine.{RuleLine}
 use Rattle.dump_grammar.specs.Lines.{Text, Word, bare}
 use Rattle.dump_grammar.specs.ChainLines.{IsMaybeCounter}
 use Rattle.dump_grammar.specs.Groups.{Group, AreGroups, all_differ, base_of}
 use Rattle.dump_grammar.specs.Literals.{AreLiterals}
 use Rattle.dump_grammar.specs.Targets.{IsTarget}
-
--- what a rule line says
-pub record Spelled (W : ℕ) : Type 0 where
-  pub chain : Text
-  pub literals : List (Lit (Prim_ W))
-  pub action : Action
 
 -- an optional counter, `-A`, the name of the chain, and then `rest`
 abbrev pub IsRuleHead : List Word → Text → List Word → Type 0
@@ -22,7 +14,7 @@ IsRuleHead words chain rest = (counter : List Word) × (name : Word) × (IsMaybe
 
 module _ {W : ℕ} (Reads : Text → ℕ → Type 0) (names : List Text) where
   -- the words of a line are this rule; `names` are the declared chains, in order
-  pub record IsRuleLine (words : List Word) (rule : Spelled W) : Type 0 where
+  pub record IsRuleLine (words : List Word) (rule : RuleLine W) : Type 0 where
     pub rest : List Word
     pub head : IsRuleHead words rule.chain rest
     pub target : List Word

@@ -6,23 +6,24 @@ use Rattle.dump_grammar.specs.Lines.{Text, Numbered, numbered_from, is_passed_ov
 use Rattle.dump_grammar.specs.declared.chains.Declared.{Declared}
 use Rattle.dump_grammar.specs.ChainLines.{IsChainLine}
 use Rattle.dump_grammar.specs.Groups.{all_differ}
-use Rattle.dump_grammar.specs.RuleLines.{Spelled, IsRuleLine}
+use Rattle.dump_grammar.specs.declared.rule.RuleLine.{RuleLine}
+use Rattle.dump_grammar.specs.RuleLines.{IsRuleLine}
 
 -- the line is `COMMIT` once the blanks at both ends are off
 abbrev pub IsCommit : Text → Type 0
 IsCommit line = (before : Text) × (after : Text) × ((line ≡ before ++ codes "COMMIT" ++ after) × AreBlanks before × AreBlanks after)
 
 -- a table: its opener, its body and the line that closes it
-pub record Table : Type 0 where
+pub record DumpTable : Type 0 where
   pub name : Text
   pub opener : Numbered
   pub body : List Numbered
   pub close : Numbered
 
-abbrev pub lines_of : Table → List Numbered
+abbrev pub lines_of : DumpTable → List Numbered
 lines_of t = t.opener ∷ (t.body ++ t.close ∷ [])
 
-abbrev pub IsFilter : Table → Type 0
+abbrev pub IsFilter : DumpTable → Type 0
 IsFilter t = t.name ≡ codes "filter"
 
 abbrev pub names_of : List Declared → List Text
@@ -31,7 +32,7 @@ names_of chains = map (λ (c : Declared). c.name) chains
 -- a rule with the number of its line
 pub record Placed (W : ℕ) : Type 0 where
   pub number : ℕ
-  pub rule : Spelled W
+  pub rule : RuleLine W
 
 -- each line declares the chain beside it
 abbrev pub AreChainLines : List Numbered → List Declared → Type 0
@@ -57,20 +58,20 @@ module _ (W : ℕ) (Reads : Text → ℕ → Type 0) where
     pub spells : AreRuleLines (names_of chains) rule_lines rules
 
   -- `*NAME`, a body, and COMMIT; in another table than filter each line up to COMMIT is in the body, whatever it is
-  pub record IsTable (t : Table) : Type 0 where
+  pub record IsTable (t : DumpTable) : Type 0 where
     pub named : t.name ≢ []
     pub opens : HasWords t.opener.bytes (bare (42 ∷ t.name) ∷ [])
     pub inside : (IsFilter t × ((chains : List Declared) × (rules : List (Placed W)) × IsFilterBody t.body chains rules) × HasWords t.close.bytes (bare (codes "COMMIT") ∷ []))
         ⊎ ((IsFilter t → ⊥) × AllByRecursion (λ (line : Numbered). IsCommit line.bytes → ⊥) t.body × IsCommit t.close.bytes)
 
   -- the lines that aren't passed over are these tables one after another, of which at most one is filter
-  pub record AreTables (lines : List Numbered) (tables : List Table) : Type 0 where
+  pub record AreTables (lines : List Numbered) (tables : List DumpTable) : Type 0 where
     pub whole : filter (λ (line : Numbered). not (is_passed_over line.bytes)) lines ≡ flat_map lines_of tables
     pub each : AllByRecursion IsTable tables
-    pub one_filter : (before after : List Table) (t : Table) → tables ≡ before ++ t ∷ after → IsFilter t → AllByRecursion (λ v. IsFilter v → ⊥) (before ++ after)
+    pub one_filter : (before after : List DumpTable) (t : DumpTable) → tables ≡ before ++ t ∷ after → IsFilter t → AllByRecursion (λ v. IsFilter v → ⊥) (before ++ after)
 
   abbrev pub WellFormed : List Text → Type 0
-  WellFormed lines = (tables : List Table) × AreTables (numbered_from 1 lines) tables
+  WellFormed lines = (tables : List DumpTable) × AreTables (numbered_from 1 lines) tables
 
   -- the lines are well formed, or are so with one line COMMIT put after them
   abbrev pub Fit : List Text → Type 0

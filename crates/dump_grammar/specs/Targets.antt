@@ -9,7 +9,7 @@ use Rattle.dump_grammar.specs.ChainLines.{is_among, built_in, passing, target_wo
 abbrev pub user_chain : List Text → Text → Option ℕ
 user_chain names name = if is_among built_in name then None else position (bytes_eq name) names
 
--- what the words after `-j NAME` may be
+-- nothing, or an unquoted `--reject-with` and one word
 abbrev pub IsRejectOption : List Word → Type 0
 IsRejectOption following = (following ≡ []) ⊎ ((kind : Word) × (following ≡ bare (codes "--reject-with") ∷ kind ∷ []))
 

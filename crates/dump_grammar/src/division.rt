@@ -23,7 +23,7 @@ fn module_after<'a>(current: Option<&'a [u8]>, group: GroupWords<'a>) -> Option<
     match group {
         GroupWords::Base { .. } => current,
         GroupWords::Module { name } => Some(name),
-        GroupWords::Named { .. } => current,
+        GroupWords::ModuleOption { .. } => current,
     }
 }
 

@@ -26,7 +26,7 @@ pub enum GroupWords<'a> {
         name: &'a [u8],
     },
     /// An option of a module.
-    Named {
+    ModuleOption {
         /// The module that was named last, if one was.
         current: Option<&'a [u8]>,
         /// Whether a `!` stands before it.
@@ -86,7 +86,7 @@ fn named_group<'a>(
         return None;
     };
     Some((
-        GroupWords::Named {
+        GroupWords::ModuleOption {
             current,
             negated,
             option,

@@ -13,6 +13,7 @@ mod options;
 mod patterns;
 mod pieces;
 mod ports;
+mod rule;
 mod states;
 mod targets;
 
@@ -24,6 +25,7 @@ pub use law::one_division;
 pub use literals::{input_literal, output_literal, protocol_literal};
 pub use patterns::pattern;
 pub use ports::port_range;
+pub use rule::RuleLine;
 pub use states::state_list;
 pub use targets::jump;
 
