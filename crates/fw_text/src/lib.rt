@@ -1,0 +1,9 @@
+//! Texts of what the program shows.
+#![tactic(auto)]
+
+mod names;
+
+pub use names::shown;
+
+#[cfg(test)]
+mod tests;

@@ -1,0 +1,120 @@
+-- The definition on words that are written out.
+use Rattle.std.proofs.Common.{◌≡◌, ◌==◌, refl, Bool, true, false, not, List, [], ◌∷◌, Option, Some, None, codes, is_some}
+use Rattle.std.specs.List.{list_all, slice_split}
+use Rattle.clap.specs.Words.{Text}
+use Rattle.clap.proofs.OnLiterals.{clap_on_literals}
+use Rattle.request.specs.CommandLine.{fffuu, faults_in, rows_in}
+use Rattle.request.specs.Requests.{Parts, asked_by, parts_in, spelled_by}
+use Rattle.request.specs.declared.types.Mode.TheVariants as mode
+
+-- words with single spaces between them
+abbrev typed : Text → List Text
+typed line = slice_split (λ b. b == 32) line
+
+abbrev all_refused : List Text → Bool
+all_refused lines = list_all (λ line. not (is_some (parts_in (typed line)))) lines
+
+abbrev no_option : Text → List Text → Option Parts
+no_option mode args = Some (record { mode = Some mode; args = args; chain = None; family = None; side = None })
+
+abbrev with_chain : Text → Option Parts
+with_chain chain = Some (record { mode = Some (codes "upper"); args = []; chain = Some chain; family = None; side = None })
+
+no_words : parts_in [] ≡ None
+unfolding fffuu faults_in rows_in parts_in clap_on_literals
+no_words = refl
+
+unknown_options : all_refused (codes "upper -x" ∷ codes "-x upper" ∷ codes "upper -1" ∷ codes "upper --ch X" ∷ codes "upper --ch=X"
+    ∷ codes "upper -h" ∷ codes "upper --help" ∷ codes "upper --version" ∷ codes "upper -V" ∷ codes "upper --="
+    ∷ codes "explain a=1 -b=2" ∷ codes "explain a=1 --b=2" ∷ []) ≡ true
+unfolding fffuu faults_in rows_in parts_in clap_on_literals
+unknown_options = refl
+
+options_without_their_value : all_refused (codes "upper --chain" ∷ codes "upper --chain --family 6" ∷ codes "upper --chain --"
+    ∷ codes "upper --chain -y" ∷ codes "upper --chain -1" ∷ []) ≡ true
+unfolding fffuu faults_in rows_in parts_in clap_on_literals
+options_without_their_value = refl
+
+options_twice : all_refused (codes "upper --chain X --chain Y" ∷ codes "upper --chain=X --chain=X" ∷ []) ≡ true
+unfolding fffuu faults_in rows_in parts_in clap_on_literals
+options_twice = refl
+
+mode_alone : parts_in (typed (codes "upper")) ≡ no_option (codes "upper") []
+unfolding fffuu faults_in rows_in parts_in clap_on_literals
+mode_alone = refl
+
+dash_is_a_word : parts_in (typed (codes "upper -")) ≡ no_option (codes "upper") (codes "-" ∷ [])
+unfolding fffuu faults_in rows_in parts_in clap_on_literals
+dash_is_a_word = refl
+
+dashes_are_taken_away : parts_in (typed (codes "upper --")) ≡ no_option (codes "upper") []
+unfolding fffuu faults_in rows_in parts_in clap_on_literals
+dashes_are_taken_away = refl
+
+mode_after_dashes : parts_in (typed (codes "-- --chain X")) ≡ no_option (codes "--chain") (codes "X" ∷ [])
+unfolding fffuu faults_in rows_in parts_in clap_on_literals
+mode_after_dashes = refl
+
+no_options_after_dashes : parts_in (typed (codes "upper -- --chain X")) ≡ no_option (codes "upper") (codes "--chain" ∷ codes "X" ∷ [])
+unfolding fffuu faults_in rows_in parts_in clap_on_literals
+no_options_after_dashes = refl
+
+all_is_plain_after_dashes : parts_in (typed (codes "explain -- -b=2 -- x")) ≡ no_option (codes "explain") (codes "-b=2" ∷ codes "--" ∷ codes "x" ∷ [])
+unfolding fffuu faults_in rows_in parts_in clap_on_literals
+all_is_plain_after_dashes = refl
+
+value_after_a_space : parts_in (typed (codes "upper --chain X")) ≡ with_chain (codes "X")
+unfolding fffuu faults_in rows_in parts_in clap_on_literals
+value_after_a_space = refl
+
+value_after_an_equals_sign : parts_in (typed (codes "upper --chain=X")) ≡ with_chain (codes "X")
+unfolding fffuu faults_in rows_in parts_in clap_on_literals
+value_after_an_equals_sign = refl
+
+option_before_the_mode : parts_in (typed (codes "--chain X upper")) ≡ with_chain (codes "X")
+unfolding fffuu faults_in rows_in parts_in clap_on_literals
+option_before_the_mode = refl
+
+empty_value : parts_in (typed (codes "upper --chain=")) ≡ with_chain []
+unfolding fffuu faults_in rows_in parts_in clap_on_literals
+empty_value = refl
+
+value_with_an_equals_sign : parts_in (typed (codes "upper --chain=a=b")) ≡ with_chain (codes "a=b")
+unfolding fffuu faults_in rows_in parts_in clap_on_literals
+value_with_an_equals_sign = refl
+
+value_with_dashes : parts_in (typed (codes "upper --chain=--family")) ≡ with_chain (codes "--family")
+unfolding fffuu faults_in rows_in parts_in clap_on_literals
+value_with_dashes = refl
+
+empty_argument : parts_in (typed (codes "upper ")) ≡ no_option (codes "upper") ([] ∷ [])
+unfolding fffuu faults_in rows_in parts_in clap_on_literals
+empty_argument = refl
+
+empty_mode : parts_in (typed (codes " x")) ≡ no_option [] (codes "x" ∷ [])
+unfolding fffuu faults_in rows_in parts_in clap_on_literals
+empty_mode = refl
+
+no_subcommand_for_help : parts_in (typed (codes "help upper")) ≡ no_option (codes "help") (codes "upper" ∷ [])
+unfolding fffuu faults_in rows_in parts_in clap_on_literals
+no_subcommand_for_help = refl
+
+option_between_arguments : parts_in (typed (codes "explain a=1 --family 6 b=2"))
+    ≡ Some (record { mode = Some (codes "explain"); args = codes "a=1" ∷ codes "b=2" ∷ []; chain = None; family = Some (codes "6"); side = None })
+unfolding fffuu faults_in rows_in parts_in clap_on_literals
+option_between_arguments = refl
+
+request_of_both_options : spelled_by (typed (codes "--chain A check --family=6")) ≡ Some (record { mode = mode.Check; chain = codes "A"; six = true })
+unfolding fffuu faults_in rows_in parts_in asked_by spelled_by clap_on_literals
+request_of_both_options = refl
+
+request_without_options : spelled_by (typed (codes "-- upper")) ≡ Some (record { mode = mode.Upper; chain = codes "FORWARD"; six = false })
+unfolding fffuu faults_in rows_in parts_in asked_by spelled_by clap_on_literals
+request_without_options = refl
+
+-- no request: an argument, a side, a family of another name, a mode of another name
+no_requests : list_all (λ line. not (is_some (spelled_by (typed line)))) (codes "check x" ∷ codes "upper " ∷ codes "upper -"
+    ∷ codes "upper --side lower" ∷ codes "check --side upper" ∷ codes "check --side=" ∷ codes "check --family 5" ∷ codes "check --family="
+    ∷ codes "help" ∷ codes "-- --chain X" ∷ codes " x" ∷ codes "Check" ∷ []) ≡ true
+unfolding fffuu faults_in rows_in parts_in asked_by spelled_by clap_on_literals
+no_requests = refl

@@ -1,0 +1,15 @@
+//! The words of a command line, and the request that they spell.
+#![tactic(auto)]
+
+mod command;
+mod laws;
+mod line;
+mod spelling;
+mod types;
+
+pub use laws::one_request;
+pub use spelling::spell;
+pub use types::{Mode, Request, SpellFault};
+
+#[cfg(test)]
+mod tests;
