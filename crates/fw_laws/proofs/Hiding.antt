@@ -1,11 +1,13 @@
 -- Hiding keeps the walks of a dump among those of the hidden one.
-use Rattle.std.specs.Prelude.{ℕ, zero, suc, ◌+◌, ◌<◌, ◌≡◌, Bool, true, false, ◌&&◌, ◌||◌, if◌then◌else◌, List, [], ◌∷◌, ◌++◌, Option, None, Some, map, slice_get, unwrap_or, refl}
+use Rattle.std.specs.Prelude.{ℕ, zero, suc, ◌+◌, ◌<◌, ◌^◌, ◌≡◌, Bool, true, false, ◌&&◌, ◌||◌, if◌then◌else◌, List, [], ◌∷◌, ◌++◌, Option, None, Some, map, slice_get, unwrap_or, length, refl}
 use Rattle.std.proofs.Common.{subst, sym, ap, ap₂, ◌∙◌, arith, zero-add, add-zero}
 use Rattle.std.specs.List.{list_any, filter}
 use Rattle.std.specs.Option.{option_and_then, option_map}
 use Rattle.std.proofs.lemmas.List.Folds.{list_any-append}
 use Rattle.std.proofs.lemmas.Map.Views.{any-filter_same}
 use Rattle.std.proofs.lemmas.Option.{slice_get-map, option_and_then_some}
+use Rattle.std.proofs.lemmas.List.{length-map}
+use Rattle.std.proofs.lemmas.List.Elements.{All-map, All-weaker}
 use Rattle.match_expr.specs.declared.expr.Expr.{Expr}
 use Rattle.fw_rule.specs.declared.rule.Verdict.{Verdict}
 use Rattle.fw_rule.specs.declared.rule.Verdict.TheVariants.{Accept}
@@ -15,15 +17,15 @@ use Rattle.fw_rule.specs.declared.rule.Chain.{Chain}
 use Rattle.fw_rule.specs.declared.rule.Dump.{Dump}
 use Rattle.fw_rule.specs.declared.rule.Place.{Place}
 use Rattle.fw_rule.specs.declared.rule.Step.{Step}
-use Rattle.fw_rule.specs.Walk.{Path, Meaning, State, At, Ended, Frame, same_place, known_holds, literal_holds, step, after, Walks, Settled, hidden_literal, hidden_rule, hidden_chain, hidden_by}
+use Rattle.fw_rule.specs.Walk.{Path, Meaning, State, At, Ended, Frame, same_place, known_holds, literal_holds, step, after, Walks, Settled, HasRoom, ChainHasRoom, RuleHasRoom, hidden_literal, hidden_rule, hidden_chain, hidden_by}
 use Rattle.fw_rule.proofs.WalkLaws.{one_verdict}
 use Rattle.fw_laws.specs.Shape.{shape_of, SameShape, rule_at}
-use Rattle.fw_laws.specs.Hidden.{NothingHidden, HiddenSettled, VerdictsStay, MayWidens, MustNarrows}
+use Rattle.fw_laws.specs.Hidden.{NothingHidden, HiddenSettled, RoomStays, CallsStay, VerdictsStay, MayWidens, MustNarrows}
 use Rattle.fw_laws.proofs.Alike.{same_after}
 use Rattle.fw_laws.proofs.Deciding.{verdict_of}
 use Rattle.fw_laws.proofs.Literals.{match_alike}
 use Rattle.fw_laws.proofs.SamePlace.{place_from_same, same_itself}
-use Rattle.fw_laws.proofs.Settle.{settled_there}
+use Rattle.fw_laws.proofs.Settle.{settled_there, calls_there}
 
 -- the last step of a path
 abbrev last_or : Step → Path → Step
@@ -165,7 +167,30 @@ module _ {P Packet : Type 0} (holds : P → Packet → Bool) (p : Packet) (m w :
   hides_alike place (Lit.Known neg expr) e = by_test place neg expr (hides expr) e
   hides_alike place (Lit.Unknown text) e = e
 
+module _ {P : Type 0} (hides : Expr P → Bool) where
+  rule_room : (rule : Rule P) → RuleHasRoom rule → RuleHasRoom (hidden_rule hides rule)
+  rule_room rule h = subst (λ (n : ℕ). n < 2 ^ 32) (sym (length-map rule.lits (hidden_literal hides))) h
+
+  chain_room : (here : Chain P) → ChainHasRoom here → ChainHasRoom (hidden_chain hides here)
+  chain_room here h = (
+    subst (λ (n : ℕ). n < 2 ^ 32) (sym (length-map here.rules (hidden_rule hides))) h.0,
+    All-map RuleHasRoom (hidden_rule hides) here.rules (All-weaker RuleHasRoom (λ rule. RuleHasRoom (hidden_rule hides rule)) rule_room here.rules h.1),
+  )
+
 module _ {P : Type 0} (dump : Dump P) where
+  pub room_stays : RoomStays dump
+  room_stays hides h = (
+    subst (λ (n : ℕ). n < 2 ^ 32) (sym (length-map dump.chains (hidden_chain hides))) h.0,
+    All-map ChainHasRoom (hidden_chain hides) dump.chains (All-weaker ChainHasRoom (λ here. ChainHasRoom (hidden_chain hides here)) (chain_room hides) dump.chains h.1),
+  )
+
+  pub calls_stay : CallsStay dump
+  calls_stay hides = (
+    length-map dump.chains (hidden_chain hides),
+    λ a b.
+        (calls_there dump (hidden_by hides dump) (hidden_shape hides dump) a b, calls_there (hidden_by hides dump) dump (sym (hidden_shape hides dump)) a b),
+  )
+
   pub hidden_settled : HiddenSettled dump
   hidden_settled hides chain = (settled_there dump (hidden_by hides dump) (hidden_shape hides dump) chain, settled_there (hidden_by hides dump) dump (sym (hidden_shape hides dump)) chain)
 

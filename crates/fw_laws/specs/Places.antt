@@ -9,7 +9,7 @@ use Rattle.fw_rule.specs.Walk.{Path, Meaning, At, Frame, same_place, after}
 use Rattle.fw_laws.specs.Shape.{rule_at}
 
 module _ {P Packet : Type 0} (holds : P → Packet → Bool) (dump : Dump P) (p : Packet) where
-  -- after so many steps the walk of the asked chain stands before the rule of the place
+  -- after so many steps the walk of the asked chain stands where the place's last step says, over its calls; the place's literal doesn't matter here
   pub record Visits (m : Meaning) (asked count : ℕ) (place : Place) : Type 0 where
     pub chain : ℕ
     pub next : ℕ
@@ -18,7 +18,7 @@ module _ {P Packet : Type 0} (holds : P → Packet → Bool) (dump : Dump P) (p 
     pub stands : after holds dump p m count (At asked 0 [] []) ≡ Some (At chain next calls frames)
     pub steps : place.steps ≡ calls ++ record { chain = chain; rule = next } ∷ []
 
-  -- the walk of the asked chain comes to the rule of the place, and the literal there is unknown
+  -- the walk of the asked chain comes to the rule of the place, and the literal there is unknown; whether other literals of the rule hold doesn't matter
   pub record Asks (m : Meaning) (asked : ℕ) (place : Place) : Type 0 where
     pub count : ℕ
     pub visit : Visits m asked count place

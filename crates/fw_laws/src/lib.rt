@@ -8,7 +8,9 @@ mod places;
 mod shape;
 mod verdicts;
 
-pub use hidden::{hidden_is_settled, hiding_narrows_must, hiding_widens_may, nothing_hidden};
+pub use hidden::{
+    hidden_is_settled, hiding_keeps_numbers, hiding_narrows_must, hiding_widens_may, nothing_hidden,
+};
 pub use known::known_is_decided;
 pub use packets::packets_alike;
 pub use places::{no_place_twice, others_dont_matter};

@@ -44,7 +44,7 @@ fn lone(alloc: Global) -> Result<Dump<Always>, AllocError>
 fn the_laws_can_be_called_at_a_settled_dump(rt: HostRuntime) -> Result<(), Fail> {
     let dump = lone(rt.alloc())?;
     same_rules_same_walk(&dump, &dump, &1);
-    exactly_one_verdict(&dump, 0, &1, &[]);
+    exactly_one_verdict(&dump, 0, &1);
     must_is_may(&dump, 0, &1);
     dropped_or_accepted(&dump, 0, &1);
     no_place_twice(&dump, &1);
@@ -53,6 +53,7 @@ fn the_laws_can_be_called_at_a_settled_dump(rt: HostRuntime) -> Result<(), Fail>
     packets_alike(&dump, 0, &1, &2);
     nothing_hidden(&dump);
     hidden_is_settled(&dump);
+    hiding_keeps_numbers(&dump);
     hiding_widens_may(&dump, 0, &1);
     hiding_narrows_must(&dump, 0, &1);
     Ok(())

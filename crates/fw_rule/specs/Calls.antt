@@ -38,7 +38,7 @@ module _ {P : Type 0} (dump : Dump P) where
     Here : {a : ℕ} → Reaches a a
     Over : {a b c : ℕ} → Calls a b → Reaches b c → Reaches a c
 
-  -- a chain is settled where it has a policy, and among the chains that it reaches calls name chains, no target is unsupported, and no chain calls itself over any path
+  -- a chain is settled where it has a policy, and among the chains that it reaches, itself too, calls name chains, no target is unsupported, and no chain calls itself over any path
   pub record Settled (chain : ℕ) : Type 0 where
     pub policy : (here : Chain P) × (v : Verdict) × (slice_get dump.chains chain ≡ Some here) × (here.policy ≡ Some v)
     pub named : (a b : ℕ) → Reaches chain a → Calls a b → b < length dump.chains

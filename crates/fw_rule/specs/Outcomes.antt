@@ -19,13 +19,13 @@ abbrev pub IsPast : {P : Type 0} → Dump P → ℕ → ℕ → Type 0
 IsPast {P} dump chain next = (here : Chain P) × (slice_get dump.chains chain ≡ Some here) × (slice_get here.rules next ≡ None)
 
 module _ {P Packet : Type 0} (holds : P → Packet → Bool) (dump : Dump P) (p : Packet) (m : Meaning) where
-  -- before the rule `next` of the chain, reached over the path, stands a rule of this action, and it matches
+  -- the rule `next` of the chain, reached over the path, has this action, and it matches
   abbrev pub MatchesAt : ℕ → ℕ → Path → Action → Type 0
   MatchesAt chain next path action = (here : Chain P) × (rule : Rule P) ×
       (slice_get dump.chains chain ≡ Some here) × (slice_get here.rules next ≡ Some rule) ×
       (matches holds p m (path ++ record { chain = chain; rule = next } ∷ []) rule ≡ true) × (rule.action ≡ action)
 
-  -- what a state gives: a rule's verdict, or without frames the end, which is past the last rule or at Back
+  -- what a state gives: a rule's verdict; or, without frames, the end of the chain that the walk began in, past its last rule or at Back
   abbrev pub Gives : State → Outcome → Type 0
   Gives (At chain next path frames) (Some Accept) = MatchesAt chain next path Action.Accept
   Gives (At chain next path frames) (Some Drop) = MatchesAt chain next path Action.Drop
@@ -33,7 +33,7 @@ module _ {P Packet : Type 0} (holds : P → Packet → Bool) (dump : Dump P) (p 
   Gives (At chain next path (f ∷ frames)) None = ⊥
   Gives (Ended v) o = ⊥
 
-  -- the walk from there, without frames, meets the outcome
+  -- the walk that begins there without frames meets the outcome
   abbrev pub Meets : ℕ → ℕ → Path → Outcome → Type 0
   Meets chain next path o = (k : ℕ) × (s : State) × (after holds dump p m k (At chain next path []) ≡ Some s) × Gives s o
 
@@ -56,7 +56,7 @@ abbrev pub IsBest : {P Packet : Type 0} → (P → Packet → Bool) → Dump P �
 IsBest holds dump p wanted chain next path o = IsPossible holds dump p chain next path o
     × ((other : Outcome) → IsPossible holds dump p chain next path other → worth wanted other ≤ worth wanted o)
 
--- the state that an outcome leads to: the verdict, or where the frames say
+-- the state that an outcome leads to: the verdict; at the end where the frames say, or without frames the verdict of the policy
 abbrev pub outcome_of : Outcome → Option Verdict → List Frame → Option State
 outcome_of (Some v) policy frames = Some (Ended v)
 outcome_of None policy frames = back policy frames

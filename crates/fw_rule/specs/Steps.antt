@@ -16,7 +16,7 @@ pub record Frame : Type 0 where
   pub next : ℕ
   pub path : Path
 
--- a walk stands before the rule `next` of a chain, which it reached over the calls of `path`, with a frame for each call, the last call first; or it has ended with a verdict
+-- a walk stands before the rule `next` of a chain, or past its last rule, and reached it over the calls of `path`; it has a frame for each call since it began, the last call first; or it has ended with a verdict
 pub data State : Type 0 where
   At : (chain : ℕ) (next : ℕ) (path : Path) (frames : List Frame) → State
   Ended : Verdict → State

@@ -8,7 +8,7 @@ use match_expr::{Bytes, Expr, List, Primitive};
 use primitives::Prim_;
 use std::alloc::{AllocError, Global};
 
-/// Which literals are hidden: those in whose expression such a test stands, at any depth and under any `Not`.
+/// Which literals are hidden: those in whose expression a test of an interface name stands, at any depth and under any `Not`.
 #[derive(Clone, Copy, Debug, PartialEq, Eq)]
 pub enum Hide {
     /// None.
@@ -162,8 +162,8 @@ fn abstracted_chain<const W: u32>(
 }
 
 /// The dump with an unknown literal of empty text in place of each known one that `hide` hides, negated or not. All else
-/// stays: chains, rules and literals keep their numbers. W is the number of bits of an address, 32 or 128. It is refused
-/// only for want of memory.
+/// stays: chains, rules and literals keep their numbers. W is the number of bits of an address. The one refusal is want
+/// of memory.
 pub fn abstracted<const W: u32>(
     alloc: Global,
     dump: &Dump<Prim_<W>>,

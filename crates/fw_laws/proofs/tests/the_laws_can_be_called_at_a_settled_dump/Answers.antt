@@ -6,3 +6,6 @@ exactly_one_verdict-requires c = lone_settled c.in_ok-dump.dump c.in_ok-dump.ens
 
 pub hiding_narrows_must-requires : goal.hiding_narrows_must-requires
 hiding_narrows_must-requires c = lone_settled c.in_ok-dump.dump c.in_ok-dump.ensures
+
+pub dropped_or_accepted-requires : goal.dropped_or_accepted-requires
+dropped_or_accepted-requires c = lone_settled c.in_ok-dump.dump c.in_ok-dump.ensures
