@@ -1,8 +1,8 @@
 -- The steps of the flat list.
 use Rattle.std.proofs.Common.{◌≡◌, ℕ, zero, suc, ◌+◌, ◌-◌, ◌<◌, ◌≤◌, Bool, true, false, List, [], ◌∷◌, ◌++◌, drop, length, get_or, Some, slice_get, refl, sym, ◌∙◌, ap, subst, arith, append_assoc}
 use Rattle.match_expr.specs.declared.expr.Expr.{Expr}
-use Rattle.match_expr.specs.declared.expr.Expr.TheVariants.{All, Not}
-use Rattle.match_expr.specs.declared.expr.FlatRule.{FlatRule}
+use Rattle.match_expr.specs.declared.expr.Expr.TheVariants.{Not}
+use Rattle.fw_rule.specs.declared.rule.Action.{Action}
 use Rattle.fw_rule.specs.declared.rule.Rule.{Rule}
 use Rattle.fw_rule.specs.declared.rule.Chain.{Chain}
 use Rattle.fw_rule.specs.declared.rule.Dump.{Dump}
@@ -16,9 +16,9 @@ use Rattle.closure.specs.declared.modes.Escape.{Escape}
 use Rattle.closure.specs.declared.modes.Mode.{Mode}
 use Rattle.closure.specs.declared.modes.Mode.TheVariants.{Hard, Soft}
 use Rattle.fw_rule.specs.Matching.{known_of, doubt_in}
-use Rattle.closure.specs.Rewriting.{Tree, Decide, Leave, Block, kind, items, rules_of, tree}
+use Rattle.closure.specs.Rewriting.{Tree, Leave, Block, kind, items, rules_of, tree}
 use Rattle.closure.specs.Rows.{row_of, shape, level}
-use Rattle.closure.specs.Flat.{escape, carried, stayed, escapes, flat_of}
+use Rattle.closure.specs.Flat.{escape, carried, stayed, escapes}
 use Rattle.closure.proofs.RowLemmas.{row_is}
 
 pub escape_first : {P : Type 0} (past : List (Expr P)) (n : ℕ) (e : Expr P) (rest : List (Escape P)) → escape past n e rest ≡ escape past n e [] ++ rest
@@ -57,6 +57,21 @@ run_kind side false (CallTo k) Hard inner c e = let q : c ≡ k = cc in let r : 
 run_kind side false (CallTo k) (Soft j) inner c e = let q : c ≡ k = cc in let r : inner ≡ Soft (suc j) = cc in (rw q refl, rw r (omega arith))
 run_kind side true (CallTo k) mode inner c e = let q : c ≡ k = cc in let r : inner ≡ Soft 0 = cc in (rw q refl, rw r (omega arith))
 
+-- a rule that is seen as a call is one
+pub calls : (side : Side) (action : Action) (k : ℕ) → kind side action ≡ CallTo k → action ≡ Action.Call k
+calls Side.Upper Action.Accept k e = cc
+calls Side.Upper Action.Drop k e = cc
+calls Side.Upper Action.Pass k e = cc
+calls Side.Upper Action.Back k e = cc
+calls Side.Upper (Action.Call j) k e = let q : j ≡ k = cc in rw q refl
+calls Side.Upper (Action.Other name) k e = cc
+calls Side.Lower Action.Accept k e = cc
+calls Side.Lower Action.Drop k e = cc
+calls Side.Lower Action.Pass k e = cc
+calls Side.Lower Action.Back k e = cc
+calls Side.Lower (Action.Call j) k e = let q : j ≡ k = cc in rw q refl
+calls Side.Lower (Action.Other name) k e = cc
+
 drop_at : {X : Type 0} (xs : List X) (n : ℕ) (x : X) → slice_get xs n ≡ Some x → drop n xs ≡ x ∷ drop (n + 1) xs
 drop_at [] n x e = cc
 drop_at (y ∷ xs) zero x e = let q : y ≡ x = cc in rw q refl
@@ -75,25 +90,11 @@ pub items_at : {P : Type 0} (side : Side) (callee : ℕ → Mode → Tree P) (ru
 items_at side callee rules n rule mode r e q =
     rw (drop_at rules n rule e, q) (row_is side callee (known_of rule) (λ (m : Mode). items side callee (drop (n + 1) rules) m) (doubt_in rule.lits) (kind side rule.action) mode)
 
-module _ {P : Type 0} (around past : List (Expr P)) (k : Expr P) (out : List (FlatRule P)) (found : List (Escape P)) (R : List (FlatRule P)) (E : List (Escape P)) where
-  pub decided : (v : Bool) (rest : Tree P) (out' : List (FlatRule P)) → out' ≡ out ++ record { expr = All (around ++ past ++ k ∷ []); accept = v } ∷ [] →
-      out ++ flat_of around past (Decide k v rest) ≡ R → out' ++ flat_of around past rest ≡ R
-  decided v rest out' e h = rw e (append_assoc out (record { expr = All (around ++ past ++ k ∷ []); accept = v } ∷ []) (flat_of around past rest) ∙ h)
-
-  pub left_rules : (n : ℕ) (rest : Tree P) (past' : List (Expr P)) → past' ≡ past ++ Not k ∷ [] →
-      out ++ flat_of around past (Leave k n rest) ≡ R → out ++ flat_of around past' rest ≡ R
-  left_rules n rest past' e h = rw e h
-
+module _ {P : Type 0} (past : List (Expr P)) (k : Expr P) (found E : List (Escape P)) where
   pub left_escapes : (n : ℕ) (rest : Tree P) (past' : List (Expr P)) (found' : List (Escape P)) → past' ≡ past ++ Not k ∷ [] → found' ≡ found ++ escape past n k [] →
       found ++ escapes past (Leave k n rest) ≡ E → found' ++ escapes past' rest ≡ E
   left_escapes n rest past' found' e f h =
       rw (e, f) (append_assoc found (escape past n k []) (escapes (past ++ Not k ∷ []) rest) ∙ ap (λ (z : List (Escape P)). found ++ z) (sym (escape_first past n k (escapes (past ++ Not k ∷ []) rest))) ∙ h)
-
-  pub ran_rules : (inner rest : Tree P) (out' : List (FlatRule P)) (xs : List (Escape P)) (past' : List (Expr P)) →
-      out' ≡ out ++ flat_of (around ++ past ++ k ∷ []) [] inner → xs ≡ escapes [] inner → past' ≡ past ++ stayed k xs →
-      out ++ flat_of around past (Block k inner rest) ≡ R → out' ++ flat_of around past' rest ≡ R
-  ran_rules inner rest out' xs past' e q f h =
-      rw (e, f, q) (append_assoc out (flat_of (around ++ past ++ k ∷ []) [] inner) (flat_of around (past ++ stayed k (escapes [] inner)) rest) ∙ h)
 
   pub ran_escapes : (inner rest : Tree P) (xs : List (Escape P)) (past' : List (Expr P)) (found' : List (Escape P)) →
       xs ≡ escapes [] inner → past' ≡ past ++ stayed k xs → found' ≡ found ++ carried past k xs →

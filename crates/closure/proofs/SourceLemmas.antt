@@ -22,9 +22,9 @@ use Rattle.closure.specs.Rewriting.{Tree, Done, Decide, Leave, Block, kind, item
 use Rattle.closure.specs.Rows.{row_of, shape}
 use Rattle.closure.specs.Flat.{escape, carried, stayed, escapes, flat_of, flat_list}
 use Rattle.closure.specs.Sources.{joined, listed, primitives_in, IsKnown, AreKnown}
-use Rattle.closure.proofs.FlatLemmas.{run_kind}
+use Rattle.closure.proofs.FlatLemmas.{run_kind, calls}
 use Rattle.closure.proofs.RowLemmas.{row_is}
-use Rattle.closure.proofs.Sure.{calls, stands}
+use Rattle.closure.proofs.Depths.{stands}
 
 each_append : {X : Type 0} (Q : X → Type 0) (a b : List X) → AllByRecursion Q a → AllByRecursion Q b → AllByRecursion Q (a ++ b)
 each_append Q [] b x y = y
@@ -117,7 +117,7 @@ module _ {P : Type 0} (Q : Expr P → Type 0) (of_all : (es : List (Expr P)) →
     tree_items dump asked known zero c r mode = tt
     tree_items dump asked known (suc depth) c r mode =
         rules_items (tree side dump depth) (rules_of dump c)
-        (λ i rule e. let there = stands side (λ (x : P). true) dump c (slice_get dump.chains c) refl i rule e in
+        (λ i rule e. let there = stands dump c (slice_get dump.chains c) refl i rule e in
         (known c rule r there, λ k m a. tree_items dump asked known depth k (append dump r (rule, there, a)) m)) mode
 
 module _ {P : Type 0} where

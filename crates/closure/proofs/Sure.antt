@@ -1,5 +1,5 @@
 -- Where no reachable rule is doubtful, each walk has the best outcome.
-use Rattle.std.proofs.Common.{◌≡◌, ℕ, zero, suc, ◌+◌, Bool, true, false, List, [], ◌∷◌, Option, None, Some, slice_get, unwrap_or, refl, sym, ◌∙◌, ap, ◌↔◌, if◌then◌else◌}
+use Rattle.std.proofs.Common.{◌≡◌, ℕ, zero, suc, ◌+◌, Bool, true, false, List, [], ◌∷◌, Some, slice_get, unwrap_or, refl, sym, ◌∙◌, ap, ◌↔◌, if◌then◌else◌}
 use Rattle.match_expr.specs.Meaning.{eval_of}
 use Rattle.match_expr.specs.FirstMatch.{first_match}
 use Rattle.fw_rule.specs.declared.rule.Verdict.{Verdict}
@@ -8,13 +8,11 @@ use Rattle.fw_rule.specs.declared.rule.Action.{Action}
 use Rattle.fw_rule.specs.declared.rule.Rule.{Rule}
 use Rattle.fw_rule.specs.declared.rule.Chain.{Chain}
 use Rattle.fw_rule.specs.declared.rule.Dump.{Dump}
-use Rattle.fw_rule.specs.Walk.{Meaning, Walks, Settled, Within, RuleOf, Reaches, Here}
-use Rattle.fw_rule.proofs.Ends.{append, contains_at}
+use Rattle.fw_rule.specs.Walk.{Meaning, Walks, Settled, Within, Reaches, Here}
+use Rattle.fw_rule.proofs.Ends.{append}
 use Rattle.closure.specs.declared.sides.Side.{Side}
-use Rattle.closure.specs.declared.sides.Side.TheVariants.{Upper, Lower}
 use Rattle.fw_rule.specs.Matching.{known_of, doubt_in}
-use Rattle.closure.specs.Rewriting.{kind, rules_of, rules_at, tree}
-use Rattle.closure.specs.declared.modes.Kind.TheVariants.{CallTo}
+use Rattle.closure.specs.Rewriting.{kind, rules_of, tree}
 use Rattle.closure.specs.declared.modes.Mode.TheVariants.{Hard}
 use Rattle.closure.specs.Flat.{flat_list}
 use Rattle.closure.specs.Outcomes.{Outcome, best_row, best_rules, best, Truth, under, step_of, lits_hold, walked_rules, walked}
@@ -22,21 +20,9 @@ use Rattle.closure.specs.Sides.{is_accept, IsSure}
 use Rattle.closure.proofs.Bounds.{sure_rule}
 use Rattle.closure.specs.Laws.{truth_of}
 use Rattle.closure.proofs.Tightness.{row_if}
+use Rattle.closure.proofs.Depths.{stands}
 use Rattle.closure.proofs.Exact.{accepts, list_has, accepting, accepted}
-
-pub calls : (side : Side) (action : Action) (k : ℕ) → kind side action ≡ CallTo k → action ≡ Action.Call k
-calls Upper Action.Accept k e = cc
-calls Upper Action.Drop k e = cc
-calls Upper Action.Pass k e = cc
-calls Upper Action.Back k e = cc
-calls Upper (Action.Call j) k e = let q : j ≡ k = cc in rw q refl
-calls Upper (Action.Other name) k e = cc
-calls Lower Action.Accept k e = cc
-calls Lower Action.Drop k e = cc
-calls Lower Action.Pass k e = cc
-calls Lower Action.Back k e = cc
-calls Lower (Action.Call j) k e = let q : j ≡ k = cc in rw q refl
-calls Lower (Action.Other name) k e = cc
+use Rattle.closure.proofs.FlatLemmas.{calls}
 
 module _ {P : Type 0} (side : Side) (h : P → Bool) where
   sure_rules : (callee : ℕ → Truth → Outcome) (best_callee : ℕ → Outcome) (c n : ℕ) (t : Truth) (rules : List (Rule P)) →
@@ -50,11 +36,6 @@ module _ {P : Type 0} (side : Side) (h : P → Bool) where
       (sure_rules callee best_callee c (n + 1) t rules (λ i r e. each (suc i) r e)) (kind side rule.action)
       (λ k e. one.1 k (under (step_of c n) t) (calls side rule.action k e))
       ∙ ap (λ (d : Bool). if eval_of h (known_of rule) then best_row best_callee (best_rules side h best_callee rules) d (kind side rule.action) else best_rules side h best_callee rules) (sym one.0)
-
-  -- a rule of the chain's list stands in the chain
-  pub stands : (dump : Dump P) (c : ℕ) (o : Option (Chain P)) → slice_get dump.chains c ≡ o → (i : ℕ) (rule : Rule P) → slice_get (rules_at o) i ≡ Some rule → RuleOf dump c rule
-  stands dump c None q i rule e = cc
-  stands dump c (Some here) q i rule e = (here, q, contains_at here.rules i rule e)
 
   pub sure_walked : (dump : Dump P) (asked : ℕ) → IsSure dump asked → (depth c : ℕ) → Reaches dump asked c → (t : Truth) → walked side h dump depth c t ≡ best side h dump depth c
   sure_walked dump asked sure zero c r t = refl

@@ -1,8 +1,6 @@
 -- How many items and literals a rewriting has, as sums that stop at the greatest number of their type.
-use Rattle.std.specs.Prelude.{ℕ, zero, suc, ◌+◌, ◌-◌, ◌^◌, min, List, [], ◌∷◌, map, unwrap_or, slice_get}
+use Rattle.std.specs.Prelude.{ℕ, zero, suc, ◌+◌, ◌-◌, ◌^◌, min, List, [], ◌∷◌, unwrap_or, slice_get}
 use Rattle.fw_rule.specs.declared.rule.Rule.{Rule}
-use Rattle.fw_rule.specs.declared.rule.Chain.{Chain}
-use Rattle.fw_rule.specs.declared.rule.Dump.{Dump}
 use Rattle.fw_rule.specs.Matching.{doubt_in}
 use Rattle.closure.specs.declared.counting.Counts.{Counts}
 use Rattle.closure.specs.declared.modes.Mode.{Mode}
@@ -47,8 +45,3 @@ module _ {P : Type 0} (side : Side) where
     hard = rule_items table rule (rules_items table rules) Hard;
     soft = rule_items table rule (rules_items table rules) (Soft 0);
   }
-
-  -- the numbers of all chains, where calls are followed to this depth
-  abbrev pub table_of : Dump P → ℕ → List Counts
-  table_of dump zero = []
-  table_of dump (suc depth) = map (λ (here : Chain P). rules_items (table_of dump depth) here.rules) dump.chains

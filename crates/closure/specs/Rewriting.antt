@@ -99,7 +99,15 @@ rules_at (Some here) = here.rules
 abbrev pub rules_of : {P : Type 0} → Dump P → ℕ → List (Rule P)
 rules_of dump c = rules_at (slice_get dump.chains c)
 
--- the tree of a chain, where no call path from it has more than `depth` chains
+-- the items of a chain in a mode, where no call path from it has more than `depth` chains
 abbrev pub tree : {P : Type 0} → Side → Dump P → ℕ → ℕ → Mode → Tree P
 tree side dump zero c mode = Done
 tree side dump (suc depth) c mode = items side (tree side dump depth) (rules_of dump c) mode
+
+-- the greatest number of chains on a call path: a check refuses a chain from which a longer one leads
+unfoldable pub greatest_depth : ℕ
+greatest_depth = 256
+
+-- the tree of a chain
+abbrev pub chain_tree : {P : Type 0} → Side → Dump P → ℕ → Tree P
+chain_tree side dump c = tree side dump greatest_depth c Hard

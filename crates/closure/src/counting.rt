@@ -1,15 +1,17 @@
-ghost use Rattle.std.specs.Prelude.{◌≡◌, ◌+◌, ◌-◌, ◌^◌, ◌<◌, ℕ, map, min, IfOk};
-ghost use Rattle.fw_rule.specs.declared.rule.Chain.{Chain};
+ghost use Rattle.std.specs.Prelude.{◌≡◌, ◌+◌, ◌-◌, ◌^◌, ◌<◌, ℕ, IfOk};
 ghost use Rattle.closure.specs.Counts as spec;
-ghost use Rattle.closure.specs.Counts.{capped, rules_items, table_of};
+ghost use Rattle.closure.specs.Counts.{capped, rules_items};
+ghost use Rattle.closure.specs.Counted.{AreCounted};
 ghost use Rattle.closure.specs.Rows.{level};
-ghost use Rattle.closure.specs.Rewriting.{tree, nodes};
-ghost use Rattle.closure.specs.declared.modes.Mode.TheVariants.{Hard};
+ghost use Rattle.closure.specs.Rewriting.{chain_tree, nodes};
+ghost use Rattle.closure.specs.Checked.{IsChecked};
 
 use crate::modes::{Mode, Row};
 use crate::parts::kind_of;
+use crate::ranks::{has_rank, rank_of};
 use crate::rows::row_of;
 use crate::sides::Side;
+use chain_graph::Ranked;
 use fw_rule::{Dump, Rule, doubtful};
 use match_expr::Primitive;
 use std::alloc::{AllocError, Global};
@@ -20,6 +22,9 @@ pub struct Counts {
     pub hard: u64,
     pub soft: u64,
 }
+
+/// Of no rules.
+const NONE: Counts = Counts { hard: 0, soft: 0 };
 
 /// The number that counts in a mode.
 fn in_mode(counts: Counts, mode: Mode) -> u64
@@ -38,7 +43,7 @@ fn entry(table: &[Counts], chain: u32) -> Counts
 {
     match table.get(chain as usize) {
         Some(counts) => *counts,
-        None => Counts { hard: 0, soft: 0 },
+        None => NONE,
     }
 }
 
@@ -84,7 +89,7 @@ fn rule_items<P: Primitive>(
 fn rules_counts<P: Primitive>(side: Side, rules: &[Rule<P>], table: &[Counts]) -> Counts
     ensures { result ≡ rules_items side table.now rules.now }
 {
-    let mut rest = Counts { hard: 0, soft: 0 };
+    let mut rest = NONE;
     for passed in 0..rules.len() {
         let rule = &rules[rules.len() - 1 - passed];
         let hard = rule_items(side, rule, Mode::Hard, table, rest);
@@ -94,36 +99,43 @@ fn rules_counts<P: Primitive>(side: Side, rules: &[Rule<P>], table: &[Counts]) -
     rest
 }
 
-/// The table of all chains, from the table in which calls are followed one level less.
-fn deeper<P: Primitive>(
-    alloc: Global,
+/// Puts the numbers of the chains of a rank into the table, which has those of the lesser ranks.
+fn count_rank<P: Primitive>(
     dump: &Dump<P>,
+    ranked: &Ranked,
     side: Side,
-    table: &[Counts],
-) -> Result<Vec<Counts>, AllocError>
-    ensures { IfOk result (λ t. t.items ≡ map (λ (here : Chain P). rules_items side table.now here.rules) dump.now.chains) }
+    rank: u32,
+    table: &mut [Counts],
+)
+    requires checked { IsChecked dump.now ranked.now.entry ranked.now }
+    requires lesser { AreCounted side dump.now ranked.now (rank - 1) table.old }
+    ensures { AreCounted side dump.now ranked.now rank table.new }
 {
-    let mut next = Vec::new(alloc);
-    for chain in dump.chains.as_slice() {
-        next.push(rules_counts(side, chain.rules.as_slice(), table))?;
+    let chains = dump.chains.as_slice();
+    for chain in 0..chains.len() {
+        if has_rank(ranked, chain, rank) {
+            let counts = rules_counts(side, chains[chain].rules.as_slice(), table);
+            table[chain] = counts;
+        }
     }
-    Ok(next)
 }
 
-/// The number of items of a chain's tree at all depths, where no call path from it has more than `depth` chains. It stops at 2^64 - 1. Nothing is built: the numbers of all chains are
-/// summed up once for each level of calls.
+/// The number of items of a chain's tree at all depths. It stops at 2^64 - 1. Nothing is built: the rules of each chain that is reached are summed up once, a called chain before those that
+/// call it.
 pub fn count_nodes<P: Primitive>(
     alloc: Global,
     dump: &Dump<P>,
-    depth: u32,
+    ranked: &Ranked,
     chain: u32,
     side: Side,
 ) -> Result<u64, AllocError>
-    ensures { IfOk result (λ n. n ≡ min (nodes (tree side dump.now depth chain Hard)) (2 ^ 64 - 1)) }
+    requires { IsChecked dump.now chain ranked.now }
+    ensures { IfOk result (λ n. n ≡ capped (nodes (chain_tree side dump.now chain))) }
 {
-    let mut table = Vec::new(alloc);
-    for _level in 0..depth {
-        table = deeper(alloc, dump, side, table.as_slice())?;
+    let mut table = vec![in alloc; NONE; dump.chains.as_slice().len()]?;
+    let top = rank_of(ranked, chain);
+    for below in 0..top {
+        count_rank(dump, ranked, side, below + 1, &mut table);
     }
     let counts = entry(table.as_slice(), chain);
     Ok(counts.hard)

@@ -1,14 +1,15 @@
 ghost use Rattle.std.specs.Prelude.{◌≡◌, ◌++◌, ◌∷◌, [], map, IfOk};
-ghost use Rattle.fw_rule.specs.Walk.{Settled, Within};
-ghost use Rattle.closure.specs.Rewriting.{tree};
+ghost use Rattle.closure.specs.Checked.{IsChecked};
+ghost use Rattle.closure.specs.Rewriting.{chain_tree};
 ghost use Rattle.closure.specs.Flat.{flat_list};
 ghost use Rattle.closure.specs.Parts.{rule_of_parts};
-ghost use Rattle.closure.specs.declared.modes.Mode.TheVariants.{Hard};
 
+use crate::cutting::State;
 use crate::modes::Parts;
 use crate::parts::behind;
 use crate::sides::Side;
-use crate::streaming::{State, states_of};
+use crate::streaming::states_of;
+use chain_graph::Ranked;
 use fw_rule::Dump;
 use match_expr::{Expr, FlatRule, Items, List, Primitive};
 use std::alloc::{AllocError, Global};
@@ -47,18 +48,17 @@ fn rules_of_parts<P: Primitive>(
 pub fn flat_rules<P: Primitive>(
     alloc: Global,
     dump: &Dump<P>,
-    depth: u32,
+    ranked: &Ranked,
     chain: u32,
     side: Side,
 ) -> Result<List<FlatRule<P>>, AllocError>
-    requires settled { Settled dump.now chain }
-    requires within { Within dump.now depth chain }
-    ensures { IfOk result (λ rules. rules ≡ flat_list (tree side dump.now depth chain Hard)) }
+    requires { IsChecked dump.now chain ranked.now }
+    ensures { IfOk result (λ rules. rules ≡ flat_list (chain_tree side dump.now chain)) }
 {
     let start = Parts {
         parts: List::of(Vec::new(alloc)),
     };
-    let states = states_of(alloc, dump, depth, chain, side, start)?;
+    let states = states_of(alloc, dump, ranked, chain, side, start)?;
     let rules = rules_of_parts(alloc, states)?;
     Ok(List::of(rules))
 }

@@ -1,19 +1,19 @@
 ghost use Rattle.std.specs.Prelude.{◌≡◌, Some, slice_get, IfOk, IfErr, OnOk};
-ghost use Rattle.fw_rule.specs.Walk.{Settled, Within};
+ghost use Rattle.closure.specs.Checked.{IsChecked};
 ghost use Rattle.fw_rule.specs.declared.rule.Chain.{Chain};
 ghost use Rattle.fw_rule.specs.declared.rule.Verdict.{Verdict};
-ghost use Rattle.closure.specs.Rewriting.{tree};
+ghost use Rattle.closure.specs.Rewriting.{chain_tree};
 ghost use Rattle.closure.specs.Flat.{flat_list};
 ghost use Rattle.closure.specs.Limits.{IsSmall, Passes};
 ghost use Rattle.closure.specs.Sides.{ClosesTo};
 ghost use Rattle.closure.specs.Sources.{AreKnown};
 ghost use Rattle.closure.specs.declared.limits.FlatFault.TheVariants.{Memory};
-ghost use Rattle.closure.specs.declared.modes.Mode.TheVariants.{Hard};
 
 use crate::counting::count_nodes;
 use crate::flattening::flat_rules;
 use crate::sides::Side;
 use crate::totals::count_literals;
+use chain_graph::Ranked;
 use fw_rule::Dump;
 use match_expr::{FlatRule, List, Primitive};
 use std::alloc::{AllocError, Global};
@@ -44,29 +44,28 @@ impl From<AllocError> for FlatFault {
 /// The flat list of a chain: read by first match, with the chain's policy at its end, it accepts exactly what may (Upper) or must (Lower) be accepted.
 /// Each primitive in it stands in a known literal of a rule of a reachable chain.
 ///
-/// No call path from the chain has more than `depth` chains. `Nodes` comes exactly where the tree has more than 262,144 items, and `Literals` exactly where it hasn't and the list has more
+/// `ranked` is what a check of the chain answers, and the chain has a policy. `Nodes` comes exactly where the tree has more than 262,144 items, and `Literals` exactly where it hasn't and the list has more
 /// than 4,194,304 literals. Both are counted before the list is built.
 pub fn flat<P: Primitive>(
     alloc: Global,
     dump: &Dump<P>,
-    depth: u32,
+    ranked: &Ranked,
     chain: u32,
     side: Side,
 ) -> Result<List<FlatRule<P>>, FlatFault>
-    requires settled { Settled dump.now chain }
-    requires within { Within dump.now depth chain }
-    ensures is { IfOk result (λ rules. rules ≡ flat_list (tree side dump.now depth chain Hard)) }
-    ensures small { OnOk result (IsSmall (tree side dump.now depth chain Hard)) }
-    ensures refused { IfErr result (λ fault. Passes (tree side dump.now depth chain Hard) fault) }
+    requires { IsChecked dump.now chain ranked.now }
+    ensures is { IfOk result (λ rules. rules ≡ flat_list (chain_tree side dump.now chain)) }
+    ensures small { OnOk result (IsSmall (chain_tree side dump.now chain)) }
+    ensures refused { IfErr result (λ fault. Passes (chain_tree side dump.now chain) fault) }
     ensures sources { IfOk result (λ rules. AreKnown dump.now chain rules) }
     ensures closes { IfOk result (λ rules. (here : Chain P) (policy : Verdict) → slice_get dump.now.chains chain ≡ Some here → here.policy ≡ Some policy → ClosesTo P.meaning side dump.now chain policy rules) }
 {
-    if count_nodes(alloc, dump, depth, chain, side)? > 262_144 {
+    if count_nodes(alloc, dump, ranked, chain, side)? > 262_144 {
         return Err(FlatFault::Nodes);
     }
-    if count_literals(alloc, dump, depth, chain, side)? > 4_194_304 {
+    if count_literals(alloc, dump, ranked, chain, side)? > 4_194_304 {
         return Err(FlatFault::Literals);
     }
-    let rules = flat_rules(alloc, dump, depth, chain, side)?;
+    let rules = flat_rules(alloc, dump, ranked, chain, side)?;
     Ok(rules)
 }

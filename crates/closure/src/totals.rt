@@ -1,13 +1,14 @@
 ghost use Rattle.std.specs.Prelude.{◌≡◌, ◌-◌, ◌^◌, min, IfOk};
-ghost use Rattle.fw_rule.specs.Walk.{Settled, Within};
+ghost use Rattle.closure.specs.Checked.{IsChecked};
 ghost use Rattle.closure.specs.Counts.{capped};
 ghost use Rattle.closure.specs.Totals.{total_of};
-ghost use Rattle.closure.specs.Rewriting.{tree};
+ghost use Rattle.closure.specs.Rewriting.{chain_tree};
 ghost use Rattle.closure.specs.Flat.{flat_list, literals_in};
-ghost use Rattle.closure.specs.declared.modes.Mode.TheVariants.{Hard};
 
+use crate::cutting::State;
 use crate::sides::Side;
-use crate::streaming::{State, states_of};
+use crate::streaming::states_of;
+use chain_graph::Ranked;
 use fw_rule::Dump;
 use match_expr::{Expr, Primitive};
 use std::alloc::{AllocError, Global};
@@ -48,16 +49,15 @@ fn sum(states: &[(Total, bool)]) -> u64
 pub fn count_literals<P: Primitive>(
     alloc: Global,
     dump: &Dump<P>,
-    depth: u32,
+    ranked: &Ranked,
     chain: u32,
     side: Side,
 ) -> Result<u64, AllocError>
-    requires settled { Settled dump.now chain }
-    requires within { Within dump.now depth chain }
-    ensures { IfOk result (λ n. n ≡ min (literals_in (flat_list (tree side dump.now depth chain Hard))) (2 ^ 64 - 1)) }
+    requires { IsChecked dump.now chain ranked.now }
+    ensures { IfOk result (λ n. n ≡ min (literals_in (flat_list (chain_tree side dump.now chain))) (2 ^ 64 - 1)) }
 {
     let start = Total { literals: 0 };
-    let states = states_of(alloc, dump, depth, chain, side, start)?;
+    let states = states_of(alloc, dump, ranked, chain, side, start)?;
     let count = sum(states.as_slice());
     Ok(count)
 }
