@@ -1,4 +1,5 @@
 pub mod Marking
+pub mod LoopLemmas
 pub mod Paths
 pub mod RankLemmas
 pub mod TableLemmas

@@ -17,10 +17,10 @@ use Rattle.chain_graph.specs.Tables.{Has, IsCapped, IsRight, IsTable, Grows}
 use Rattle.chain_graph.proofs.Marking.{called_cases, called_by}
 use Rattle.chain_graph.proofs.Paths.{within_more, lone, longer, shorter}
 
-get_set_same : {X : Type 0} (xs : List X) (i : ℕ) (a : X) → i < length xs → slice_get (set xs i a) i ≡ Some a
+pub get_set_same : {X : Type 0} (xs : List X) (i : ℕ) (a : X) → i < length xs → slice_get (set xs i a) i ≡ Some a
 get_set_same xs i a h = let inside : i < length (set xs i a) = omega (arith, h, length-set xs i a) in slice_get-get_or (set xs i a) i a inside ∙ ap (λ (z : _). Some z) (get_or-set_same xs i a a h)
 
-get_set_other : {X : Type 0} (xs : List X) (i j : ℕ) (a : X) → (j ≡ i → ⊥) → slice_get (set xs i a) j ≡ slice_get xs j
+pub get_set_other : {X : Type 0} (xs : List X) (i j : ℕ) (a : X) → (j ≡ i → ⊥) → slice_get (set xs i a) j ≡ slice_get xs j
 get_set_other xs i j a ne = elim (slice_get_cases xs j).1 [
   | inl x ↦ (let inside : j < length (set xs i a) = omega (arith, x.1, length-set xs i a) in
       slice_get-get_or (set xs i a) j a inside ∙ ap (λ (z : _). Some z) (get_or-set_other xs i j a a ne) ∙ sym (slice_get-get_or xs j a x.1))

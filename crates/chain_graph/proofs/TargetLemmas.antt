@@ -1,18 +1,16 @@
 -- The least line of unsupported targets.
-use Rattle.std.specs.Prelude.{ℕ, ◌+◌, ◌<◌, ◌≤◌, ◌≡◌, ◌⊎◌, Bool, false, true, List, [], ◌∷◌, ◌++◌, length, take, Option, None, Some, slice_get, get_or, Contains, refl, IfSome, IfNone, IsSome}
+use Rattle.std.specs.Prelude.{ℕ, ◌+◌, ◌<◌, ◌≤◌, ◌≡◌, ◌⊎◌, List, [], ◌∷◌, ◌++◌, length, take, Option, None, Some, get_or, Contains, refl, IfSome, IfNone}
 use Rattle.std.proofs.Common.{arith, subst, sym, ap, ◌∙◌, inl, inr}
 use Rattle.std.proofs.lemmas.List.{take_all, take_more}
 use Rattle.std.proofs.lemmas.List.Elements.{Contains-push_cases, Contains-push, Contains-append_left}
 use Rattle.std.proofs.lemmas.Bool.{cases_lt}
-use Rattle.fw_rule.specs.declared.rule.Verdict.{Verdict}
-use Rattle.fw_rule.specs.declared.rule.Action.{Action}
 use Rattle.fw_rule.specs.declared.rule.Rule.{Rule}
 use Rattle.fw_rule.specs.declared.rule.Chain.{Chain}
 use Rattle.fw_rule.specs.declared.rule.Dump.{Dump}
-use Rattle.fw_rule.specs.Calls.{RuleOf, Calls, Reaches, Settled}
+use Rattle.fw_rule.specs.Calls.{RuleOf, Reaches}
 use Rattle.chain_graph.specs.declared.targets.Target.{Target}
-use Rattle.chain_graph.specs.Faults.{NoneUnsupported, IsUnsupported, IsLeastUnsupported, NoLoop}
-use Rattle.chain_graph.specs.Marks.{MarksAre, AreRulesOf}
+use Rattle.chain_graph.specs.Faults.{NoneUnsupported, IsLeastUnsupported, NoLoop}
+use Rattle.chain_graph.specs.Marks.{AreRulesOf}
 use Rattle.chain_graph.specs.Paths.{CallsNameChains}
 use Rattle.chain_graph.specs.Refusals.{SettledByPolicy}
 use Rattle.chain_graph.specs.Targets.{IsLeastOf, IsLesser, IsTarget, TargetIn, TargetBefore}

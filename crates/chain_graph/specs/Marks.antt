@@ -5,6 +5,7 @@ use Rattle.fw_rule.specs.declared.rule.Action.{Action}
 use Rattle.fw_rule.specs.declared.rule.Rule.{Rule}
 use Rattle.fw_rule.specs.declared.rule.Chain.{Chain}
 use Rattle.fw_rule.specs.declared.rule.Dump.{Dump}
+use Rattle.fw_rule.specs.Calls.{Calls}
 
 -- the chain is marked
 abbrev pub IsMarked : List Bool → ℕ → Type 0
@@ -28,6 +29,10 @@ module _ {P : Type 0} where
   -- one of these rules calls the chain
   abbrev pub IsCalled : List (Rule P) → ℕ → Type 0
   IsCalled rules c = (rule : Rule P) × Contains rules rule × (rule.action ≡ Action.Call c)
+
+  -- no call from a marked chain leads to a greater number
+  abbrev pub NeverRises : Dump P → List Bool → List ℕ → Type 0
+  NeverRises dump marks numbers = (a b : ℕ) → IsMarked marks a → Calls dump a b → get_or numbers b 0 ≤ get_or numbers a 0
 
   -- these are the chain's rules
   abbrev pub AreRulesOf : Dump P → ℕ → List (Rule P) → Type 0

@@ -1,5 +1,5 @@
 -- When each refusal comes.
-use Rattle.std.specs.Prelude.{ℕ, List, Option, Some, slice_get, ◌≡◌}
+use Rattle.std.specs.Prelude.{ℕ, Some, slice_get, ◌≡◌}
 use Rattle.fw_rule.specs.declared.rule.Verdict.{Verdict}
 use Rattle.fw_rule.specs.declared.rule.Chain.{Chain}
 use Rattle.fw_rule.specs.declared.rule.Dump.{Dump}

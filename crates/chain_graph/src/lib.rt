@@ -2,15 +2,20 @@
 #![tactic(auto)]
 
 mod checking;
+mod conditions;
 mod graph;
+mod groups;
 mod loops;
 mod ranking;
 mod reach;
 mod targets;
+#[cfg(test)]
+mod tests;
 
 pub use checking::check;
+pub use conditions::{calls_name_chains, has_room};
 pub use graph::{GraphFault, Ranked};
 pub use loops::first_loop;
 pub use ranking::ranked;
-pub use reach::{reachable, reached_by_call};
+pub use reach::{callee_of, reachable, reached_by_call, rules_of};
 pub use targets::{Target, least_unsupported};

@@ -10,7 +10,7 @@ use match_expr::Primitive;
 use std::alloc::{AllocError, Global};
 
 /// The rules of a chain.
-pub(crate) fn rules_of<P: Primitive>(dump: &Dump<P>, chain: u32) -> &[Rule<P>]
+pub fn rules_of<P: Primitive>(dump: &Dump<P>, chain: u32) -> &[Rule<P>]
     requires { chain < length dump.now.chains }
     ensures { AreRulesOf dump.now chain result.now }
 {
@@ -18,7 +18,7 @@ pub(crate) fn rules_of<P: Primitive>(dump: &Dump<P>, chain: u32) -> &[Rule<P>]
 }
 
 /// The chain that a rule calls.
-pub(crate) fn callee_of<P: Primitive>(rule: &Rule<P>) -> Option<u32>
+pub fn callee_of<P: Primitive>(rule: &Rule<P>) -> Option<u32>
     ensures { MatchOption result ((k : ℕ) → rule.now.action ≡ action.Action.Call k → ⊥) (λ k. rule.now.action ≡ action.Action.Call k) }
 {
     match rule.action {

@@ -1,5 +1,4 @@
-use Rattle.std.proofs.Common.{◌≡◌, ◌<◌, ◌∙◌, ℕ, List, Bool, true, false, length, get_or, ap, sym, arith}
-use Rattle.fw_rule.specs.Calls.{Reaches}
+use Rattle.std.proofs.Common.{◌≡◌, ◌∙◌, List, Bool, true, false, length, get_or, ap, sym, arith}
 use Rattle.chain_graph.proofs.Marking.{reach_inside}
 use Rattle.chain_graph.proofs.TargetLemmas.{passed_over, more_chains, some_answer, none_answer}
 use Rattle.chain_graph.proofs.targets.least_unsupported.Goals as goal
