@@ -61,7 +61,7 @@ marked : (negated : Bool) (w : Word) (a b : List Word) → length b < length (ma
 marked true w a b = omega (arith, length-append a b)
 marked false w a b = omega (arith, length-append a b)
 
-group_shorter : (current : Option Text) (words : List Word) (g : Group) (rest : List Word) → IsGroup current words g rest → length rest < length words
+pub group_shorter : (current : Option Text) (words : List Word) (g : Group) (rest : List Word) → IsGroup current words g rest → length rest < length words
 group_shorter current words (Base n o a) rest is = subst (λ (ws : List Word). length rest < length ws) (sym is.1.0) (marked n (bare o) is.0 rest)
 group_shorter current words (Module name) rest is = let e = ap length is.1.0 in omega (arith, e)
 group_shorter current words (ModuleOption m n o a) rest is = subst (λ (ws : List Word). length rest < length ws) (sym is.1.0) (marked n (bare o) is.0 rest)

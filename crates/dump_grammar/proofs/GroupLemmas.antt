@@ -1,5 +1,5 @@
 -- What stands at the front of the words of a group.
-use Rattle.std.proofs.Common.{◌≡◌, ◌≢◌, ◌∙◌, ◌++◌, ◌∷◌, [], ℕ, List, Bool, true, false, ◌&&◌, ◌||◌, not, Option, Some, None, IfSome, IfNone, length, refl, sym, ap, subst, arith, codes}
+use Rattle.std.proofs.Common.{◌≡◌, ◌≢◌, ◌∙◌, ◌++◌, ◌∷◌, [], ℕ, List, Bool, true, false, ◌&&◌, ◌||◌, not, Option, Some, None, Result, Ok, Err, IfSome, IfNone, IfOk, length, refl, sym, ap, subst, arith, codes}
 use Rattle.std.specs.List.{AllByRecursion}
 use Rattle.std.specs.Str.{bytes_eq}
 use Rattle.std.proofs.lemmas.Slice.Eq.{bytes_eq-Decides}
@@ -175,3 +175,13 @@ one_group current words (ModuleOption c n o a) rest (ModuleOption k m p b) end i
     let name = once.1 in
     let now : c ≡ k = is.1.1 ∙ sym same.1.1 in
     (cc, cut.1)
+
+-- what follows where nothing is found
+pub ok_none : {A E : Type 0} (r : Result (Option A) E) (P Q : Type 0) → IfOk r (λ o. IfNone o P) → (P → Q) → IfOk r (λ o. IfNone o Q)
+ok_none (Ok o) P Q p f = if_none o P Q p f
+ok_none (Err e) P Q p f = tt
+
+-- what follows of what is found
+pub ok_some : {A E : Type 0} (r : Result (Option A) E) (P Q : A → Type 0) → IfOk r (λ o. IfSome o P) → ((x : A) → P x → Q x) → IfOk r (λ o. IfSome o Q)
+ok_some (Ok o) P Q p f = if_some o P Q p f
+ok_some (Err e) P Q p f = tt

@@ -8,3 +8,15 @@ pub mod GroupLemmas
 pub mod DivisionLemmas
 pub mod LawLemmas
 pub mod ProtocolLemmas
+pub mod UnknownLemmas
+pub mod AddressLemmas
+pub mod BaseLemmas
+pub mod KindLemmas
+pub mod SayingLemmas
+pub mod PortListLemmas
+pub mod RowLemmas
+pub mod ProtocolOnce
+pub mod SayingOnce
+pub mod LiteralOnce
+pub mod RuleOnce
+pub mod PrintableLemmas

@@ -1,15 +1,17 @@
 -- The row of an option, found by its place, tells the arity.
-use Rattle.std.proofs.Common.{◌≡◌, ◌∙◌, ◌<◌, ◌≤◌, ℕ, zero, suc, List, [], ◌∷◌, Bool, true, false, Some, None, length, map, refl, sym, ap, arith, get_or, slice_get}
-use Rattle.std.specs.Prelude.{if◌then◌else◌}
-use Rattle.std.specs.List.{position, position_or_len}
+use Rattle.std.proofs.Common.{◌≡◌, ◌∙◌, ◌<◌, ◌≤◌, ℕ, zero, suc, List, [], ◌∷◌, Bool, true, false, ◌&&◌, ◌||◌, Some, None, length, map, refl, sym, ap, arith, get_or, slice_get}
+use Rattle.std.specs.Prelude.{if◌then◌else◌, nat_lt}
+use Rattle.std.proofs.lemmas.Bool.Decides.{nat_tests}
+use Rattle.std.specs.List.{list_any, position, position_or_len}
+use Rattle.std.specs.Str.{bytes_eq}
 use Rattle.std.proofs.lemmas.Grind.{common_steps}
 use Rattle.std.proofs.lemmas.List.Sums.{fails_before_first}
 use Rattle.std.proofs.lemmas.List.Quantifiers.{position-Some}
 use Rattle.std.proofs.lemmas.Option.{get_or_from_slice_get}
 use Rattle.opt_table.specs.declared.Row.{Row}
-use Rattle.opt_table.specs.Rows.{Spelling, is_row, spelling_of}
+use Rattle.opt_table.specs.Rows.{Spelling, is_module, is_row, spelling_of}
 use Rattle.opt_table.specs.Options.{known_options}
-use Rattle.dump_grammar.specs.Groups.{arity_in_rows, arity_of}
+use Rattle.dump_grammar.specs.Groups.{arity_in_rows, arity_of, is_known_module}
 use Rattle.dump_grammar.specs.Lines.{Text}
 
 arity_at : (rows : List Row) (n o : Text) (k : ℕ) (row : Row) → slice_get rows k ≡ Some row → is_row n o row ≡ true
@@ -46,3 +48,15 @@ pub arity_none : (rows : List Row) (n o : Text) → map spelling_of rows ≡ kno
 unfolding arity_of
 arity_none rows n o all at =
     sym (arity_nowhere rows n o (λ j d h. fails_at (is_row n o) rows at j d h)) ∙ ap (λ (s : List Spelling). arity_in_rows s n o) all
+
+any_mapped : (rows : List Row) (p : Spelling → Bool) → list_any (λ row. p (spelling_of row)) rows ≡ list_any p (map spelling_of rows)
+any_mapped [] p = refl
+any_mapped (x ∷ xs) p = ap (λ (b : Bool). p (spelling_of x) || b) (any_mapped xs p)
+
+-- a module is known where some row is of it
+pub module_known : (name : Text) (rows : List Row) → map spelling_of rows ≡ known_options → is_module name rows ≡ is_known_module name
+module_known [] rows all = refl
+module_known (b ∷ bs) rows all =
+    let some : nat_lt 0 (length (b ∷ bs)) ≡ true = grind (arith, nat_tests) in
+    ap (λ (t : Bool). t && list_any (λ (row : Row). bytes_eq row.«module».now (b ∷ bs)) rows) some
+    ∙ any_mapped rows (λ (row : Spelling). bytes_eq row.name (b ∷ bs)) ∙ ap (list_any (λ (row : Spelling). bytes_eq row.name (b ∷ bs))) all

@@ -50,3 +50,13 @@ pub policy_fits : (words rest counter : List Token) (first second : Token) (name
     → IsChainLine (words_of words) chain → is_among built_in name ≡ is_some p
 policy_fits words rest counter first second name p chain e f g h is =
     fits_by (words_of words) (words_of counter) name p chain (words_are words rest counter first second _ _ e f g h) is
+
+same_chain : (a b : Declared) → a.name ≡ b.name → a.policy ≡ b.policy → a ≡ b
+same_chain a b e f = λ i. record { name = e i; policy = f i }
+
+-- the words of a line declare one chain at most
+pub one_chain_line : (words : List Word) (a b : Declared) → IsChainLine words a → IsChainLine words b → a ≡ b
+unfolding first_text second_text after_first
+one_chain_line words a b p q =
+    let same = sym p.whole ∙ q.whole in
+    same_chain a b (ap (λ (ws : List Word). after_first (first_text ws)) same) (policy_once a.policy b.policy (ap (λ (ws : List Word). second_text ws) same))

@@ -15,7 +15,7 @@ digits_free : (c : ℕ) (text : Text) → 10 ≤ digit_value c → AllDigits 10 
 digits_free c [] high p = tt
 digits_free c (d ∷ text) high p = (λ is. absurd (omega (arith, ap digit_value is, p.0)), digits_free c text high p.1)
 
-decimal_lacks : (n : ℕ) → n < 2 ^ 64 → Lacks 58 (decimal n)
+pub decimal_lacks : (n : ℕ) → n < 2 ^ 64 → Lacks 58 (decimal n)
 decimal_lacks n small = All-from_recursion (λ b. b ≢ 58) (decimal n) (digits_free 58 (decimal n) (lit≤ tt) (decimal_is_IsNumeral n small).0.1)
 
 -- a text without a colon is one port

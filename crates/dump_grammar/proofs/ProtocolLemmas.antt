@@ -39,7 +39,7 @@ no_number n small is =
     let first : 10 < 10 = digits.0 in
     omega (arith, first)
 
-every_only : (text : Text) (n : ℕ) → IsEveryProtocol text → 1 ≤ n → SpellsProto text n → ⊥
+pub every_only : (text : Text) (n : ℕ) → IsEveryProtocol text → 1 ≤ n → SpellsProto text n → ⊥
 every_only text n (inl is) some (inl spells) = let f : None ≡ Some n = subst (λ (t : Text). number_in proto_names t ≡ Some n) is spells in cc
 every_only text n (inr is) some (inl spells) = let f : None ≡ Some n = subst (λ (t : Text). number_in proto_names t ≡ Some n) is spells in cc
 every_only text n (inl is) some (inr spells) = no_number n spells.0 (sym is ∙ spells.1)

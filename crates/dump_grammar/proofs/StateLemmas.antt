@@ -25,13 +25,13 @@ both_more : (f b : ℕ) (r : Option ℕ) → flags_of_both (Some f) (flags_of_bo
 both_more f b None = refl
 both_more f b (Some a) = ap Some (sym (or_assoc f b a))
 
-abbrev IsFree : List ℕ → Type 0
+abbrev pub IsFree : List ℕ → Type 0
 IsFree text = All (λ b. b ≢ 44) text
 
 not_comma : (b : ℕ) → b ≢ 44 → (b == 44) ≡ false
 not_comma b h = let f : b ≡ 44 → ⊥ = h in grind (arith, nat_tests, f)
 
-free_lacks : (text : List ℕ) → IsFree text → All (λ b. (b == 44) ≡ false) text
+pub free_lacks : (text : List ℕ) → IsFree text → All (λ b. (b == 44) ≡ false) text
 free_lacks text h = λ k d small. not_comma (slice_index_or text k d) (h k d small)
 
 -- a first part that names a state is passed

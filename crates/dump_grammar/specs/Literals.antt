@@ -44,6 +44,10 @@ abbrev pub IsEveryProtocol : Text → Type 0
 IsEveryProtocol text = (text ≡ codes "all") ⊎ (text ≡ codes "0")
 
 module _ {W : ℕ} where
+  -- a module without a row is unknown itself, unless an option follows before the next module is named
+  abbrev pub modules_literals : Text → List Group → List (Lit (Prim_ W))
+  modules_literals name after = if is_known_module name || option_follows after then [] else Lit.Unknown (text_of (Module name)) ∷ []
+
   -- the literal of an interface option: a pattern of 1 to 255 bytes
   abbrev pub IsNameLiteral : (Pattern → Prim_ W) → Text → Bool → Lit (Prim_ W) → Type 0
   IsNameLiteral prim text negated literal = (pattern : Pattern) × (IsPattern text pattern × (1 ≤ length text) × (length text ≤ 255)
@@ -82,10 +86,6 @@ module _ {W : ℕ} (Reads : Text → ℕ → Type 0) (groups : List Group) where
   IsOptionLiteral current negated option arguments (Lit.Unknown shown) =
       (shown ≡ text_of (ModuleOption current negated option arguments))
       × ((name : Text) (expr : Expr (Prim_ W)) → current ≡ Some name → Says Reads groups name option arguments negated expr → ⊥)
-
-  -- a module without a row is unknown itself, unless an option follows before the next module is named
-  abbrev pub modules_literals : Text → List Group → List (Lit (Prim_ W))
-  modules_literals name after = if is_known_module name || option_follows after then [] else Lit.Unknown (text_of (Module name)) ∷ []
 
   -- the groups, of which these are the last, give these literals, in the order of the line
   abbrev pub AreLiterals : List Group → List (Lit (Prim_ W)) → Type 0

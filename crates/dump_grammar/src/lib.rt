@@ -1,11 +1,14 @@
 //! Reads what iptables-save and ip6tables-save write.
 #![tactic(auto)]
 
+mod addresses;
+mod base;
 mod chains;
 mod counters;
 mod division;
 mod grouping;
 mod heads;
+mod kinds;
 mod law;
 mod literals;
 mod names;
@@ -13,18 +16,23 @@ mod options;
 mod patterns;
 mod pieces;
 mod ports;
+mod protocols;
+mod reading;
+mod rows;
 mod rule;
+mod saying;
 mod states;
 mod targets;
+mod unknown;
 
 pub use chains::{Declared, chain_line};
 pub use division::groups;
 pub use grouping::{GroupWords, group};
 pub use heads::rule_head;
-pub use law::one_division;
-pub use literals::{input_literal, output_literal, protocol_literal};
+pub use law::{one_chain_line, one_division, one_rule_line};
 pub use patterns::pattern;
 pub use ports::port_range;
+pub use reading::rule_line;
 pub use rule::RuleLine;
 pub use states::state_list;
 pub use targets::jump;

@@ -2,12 +2,16 @@ ghost use Rattle.std.specs.Prelude.{◌≡◌, ◌≤◌, ◌↔◌, ℕ, IfSome
 ghost use Rattle.fw_rule.specs.declared.rule.Lit.{Lit as ALit};
 ghost use Rattle.primitives.specs.declared.prim.Prim_.{Prim_ as APrim};
 ghost use Rattle.primitives.specs.Words.{SpellsProto};
-ghost use Rattle.dump_grammar.specs.Literals.{IsEveryProtocol, IsNameLiteral, IsPattern, IsProtocolLiteral};
+ghost use Rattle.dump_grammar.specs.Groups.{Group as AGroup};
+ghost use Rattle.dump_grammar.specs.Lines.{texts, words_of};
+ghost use Rattle.dump_grammar.specs.Literals.{IsEveryProtocol, IsNameLiteral, IsPattern, IsProtocolLiteral, text_of};
 
 use crate::patterns::pattern;
 use crate::pieces::is_same;
+use crate::unknown::option_text;
+use dump_token::Token;
 use fw_rule::Lit;
-use match_expr::{Bytes, Expr};
+use match_expr::Expr;
 use name_set::Pattern;
 use primitives::{Prim_, ProtoNum, read_proto};
 use std::alloc::{AllocError, Global};
@@ -23,7 +27,7 @@ fn short_pattern(alloc: Global, text: &[u8]) -> Result<Option<Pattern>, AllocErr
 }
 
 /// The literal of `-i` with this argument, which has 1 to 255 bytes; None exactly where it hasn't.
-pub fn input_literal<const W: u32>(
+pub(crate) fn input_literal<const W: u32>(
     alloc: Global,
     text: &[u8],
     negated: bool,
@@ -41,7 +45,7 @@ pub fn input_literal<const W: u32>(
 }
 
 /// The literal of `-o` with this argument, which has 1 to 255 bytes; None exactly where it hasn't.
-pub fn output_literal<const W: u32>(
+pub(crate) fn output_literal<const W: u32>(
     alloc: Global,
     text: &[u8],
     negated: bool,
@@ -75,30 +79,31 @@ fn protocol_number(text: &[u8]) -> Option<ProtoNum>
     }
 }
 
-/// The literal of `-p` with this argument; `unknown` is the text of the group. None comes exactly where every protocol is
-/// negated.
-pub fn protocol_literal<const W: u32>(
-    text: &[u8],
+/// The literal of `-p`, the option that is passed, with this argument. None comes exactly where every protocol is negated.
+pub(crate) fn protocol_literal<const W: u32>(
+    alloc: Global,
     negated: bool,
-    unknown: Bytes,
-) -> Option<Lit<Prim_<W>>>
-    ensures some { IfSome result (λ l. IsProtocolLiteral text.now negated unknown l) }
-    ensures none { IfNone result ((l : ALit (APrim W)) → IsProtocolLiteral text.now negated unknown l → ⊥) }
+    option: &[u8],
+    arguments: &[Token],
+    text: &[u8],
+) -> Result<Option<Lit<Prim_<W>>>, AllocError>
+    ensures some { IfOk result (λ o. IfSome o (λ l. IsProtocolLiteral text.now negated (text_of (AGroup.Base negated option.now (texts (words_of arguments.now)))) l)) }
+    ensures none { IfOk result (λ o. IfNone o ((l : ALit (APrim W)) → IsProtocolLiteral text.now negated (text_of (AGroup.Base negated option.now (texts (words_of arguments.now)))) l → ⊥)) }
 {
     if is_every_protocol(text) {
         if negated {
-            return None;
+            return Ok(None);
         }
-        return Some(Lit::Known {
+        return Ok(Some(Lit::Known {
             neg: false,
             expr: Expr::Prim(Prim_::Always),
-        });
+        }));
     }
     match protocol_number(text) {
-        Some(number) => Some(Lit::Known {
+        Some(number) => Ok(Some(Lit::Known {
             neg: negated,
             expr: Expr::Prim(Prim_::Proto(number)),
-        }),
-        None => Some(Lit::Unknown(unknown)),
+        })),
+        None => Ok(Some(Lit::Unknown(option_text(alloc, None, negated, option, arguments)?))),
     }
 }

@@ -1,10 +1,14 @@
-ghost use Rattle.std.specs.Prelude.{◌≡◌, ◌≤◌, ℕ, IfSome, IfNone, decimal};
+ghost use Rattle.std.specs.Prelude.{◌≡◌, ◌≤◌, ◌<◌, ◌^◌, ◌==◌, ℕ, List as Seq, All, IfSome, IfNone, IfOk, decimal, if◌then◌else◌};
+ghost use Rattle.std.specs.List.{list_any};
 ghost use Rattle.interval_set.specs.declared.set.Range.{Range as ARange};
-ghost use Rattle.dump_grammar.specs.Arguments.{IsPortRange};
+ghost use Rattle.interval_set.specs.Numbers.{has};
+ghost use Rattle.interval_set.specs.Spelling.{ranges_where};
+ghost use Rattle.dump_grammar.specs.Arguments.{IsPortList, IsPortRange};
 
 use crate::pieces::parted;
 use addr_text::read_number;
-use interval_set::Range;
+use interval_set::{Range, Set};
+use std::alloc::{AllocError, Global};
 
 /// Reads a port, or FIRST:LAST; None exactly where the text is neither.
 pub fn port_range(text: &[u8]) -> Option<Range>
@@ -40,4 +44,61 @@ fn one_port(text: &[u8]) -> Option<Range>
         lo: port as u128,
         hi: port as u128,
     })
+}
+
+fn has_colon(text: &[u8]) -> bool
+    ensures { result ≡ list_any (λ b. b == 58) text.now }
+{
+    text.iter().any(|b| *b == b':')
+}
+
+// How much a part of a list counts.
+fn part_weight(text: &[u8]) -> u32
+    ensures value { result ≡ (if list_any (λ b. b == 58) text.now then 2 else 1) }
+    ensures small { result ≤ 2 }
+{
+    if has_colon(text) { 2 } else { 1 }
+}
+
+/// Reads ports and ranges of ports with commas between them, where a range counts two and all count 15 at most; None
+/// exactly where the text is no such list.
+pub(crate) fn port_list(alloc: Global, text: &[u8]) -> Result<Option<Vec<Range>>, AllocError>
+    ensures some { IfOk result (λ o. IfSome o (λ rs. IsPortList text.now rs.items)) }
+    ensures none { IfOk result (λ o. IfNone o ((rs : Seq ARange) → IsPortList text.now rs → ⊥)) }
+{
+    let mut found = Vec::new(alloc);
+    let mut rest = text;
+    let mut count = 0;
+    while let Some((part, after)) = parted(rest, b',') {
+        let Some(range) = port_range(part) else {
+            return Ok(None);
+        };
+        count += part_weight(part);
+        if count > 15 {
+            return Ok(None);
+        }
+        found.push(range)?;
+        rest = after;
+    }
+    let Some(last) = port_range(rest) else {
+        return Ok(None);
+    };
+    if count + part_weight(rest) > 15 {
+        return Ok(None);
+    }
+    found.push(last)?;
+    Ok(Some(found))
+}
+
+/// The set of the ports in these ranges.
+pub(crate) fn port_set(alloc: Global, ranges: &[Range]) -> Result<Set<16>, AllocError>
+    requires { All (λ (r : ARange). (r.lo ≤ r.hi) × (r.hi < 2 ^ 16)) ranges.now }
+    ensures { IfOk result (λ s. s ≡ ranges_where (has ranges.now) (2 ^ 16)) }
+{
+    let mut ports = Set::<16>::empty(alloc);
+    for range in ranges {
+        let one = Set::<16>::range(alloc, range.lo, range.hi)?;
+        ports = ports.or(alloc, &one)?;
+    }
+    Ok(ports)
 }

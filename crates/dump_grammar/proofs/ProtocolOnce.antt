@@ -1,0 +1,141 @@
+-- A text spells one protocol, and a line names one.
+use Rattle.std.proofs.Common.{◌≡◌, ◌∙◌, ◌≤◌, ◌<◌, ◌+◌, ◌++◌, ℕ, zero, suc, List, [], ◌∷◌, Bool, true, false, ◌&&◌, not, Some, refl, sym, ap, subst, arith, codes, inl, inr, ◌⊎◌, decimal, get_or, length, take, Contains}
+use Rattle.std.specs.Prelude.{if◌then◌else◌, nat_le}
+use Rattle.std.specs.Char.{digit_value}
+use Rattle.std.specs.Str.{bytes_eq}
+use Rattle.std.specs.Str.Parse.{AllDigits}
+use Rattle.std.proofs.lemmas.Bool.Decides.{nat_tests}
+use Rattle.std.proofs.lemmas.Fmt.{decimal_injective, decimal_is_IsNumeral}
+use Rattle.std.proofs.lemmas.List.{map-append, take_all, take_more}
+use Rattle.std.proofs.lemmas.List.Elements.{Contains-append_cases}
+use Rattle.std.proofs.lemmas.Slice.Eq.{bytes_eq-Decides}
+use Rattle.primitives.specs.Ports.{HasPorts}
+use Rattle.primitives.specs.Words.{Named, SpellsProto, number_in, proto_names}
+use Rattle.dump_grammar.specs.declared.grouping.GroupWords.{GroupWords}
+use Rattle.dump_grammar.specs.Arguments.{LineProtocol}
+use Rattle.dump_grammar.specs.ChainLines.{is_among}
+use Rattle.dump_grammar.specs.GroupWords.{group_of, groups_of}
+use Rattle.dump_grammar.specs.Groups.{Group, Base, Module, ModuleOption, all_differ, base_of}
+use Rattle.dump_grammar.specs.Lines.{Text}
+use Rattle.dump_grammar.proofs.BaseLemmas.{same_only}
+
+-- the text begins with a byte that is no decimal digit
+abbrev begins_other : List ℕ → Bool
+begins_other [] = false
+begins_other (b ∷ bs) = nat_le 10 (digit_value b)
+
+abbrev all_begin_other : List Named → Bool
+all_begin_other [] = true
+all_begin_other (word ∷ words) = begins_other word.name && all_begin_other words
+
+name_begins : (words : List Named) (text : Text) (n : ℕ) → all_begin_other words ≡ true → number_in words text ≡ Some n → begins_other text ≡ true
+name_begins [] text n h is = cc
+name_begins (word ∷ words) text n h is = by_cases (bytes_eq word.name text) refl (λ k. name_begins words text n (grind (arith, h)) k) is
+  where
+    by_cases : (c : Bool) → bytes_eq word.name text ≡ c → (number_in words text ≡ Some n → begins_other text ≡ true) →
+        (if c then Some word.number else number_in words text) ≡ Some n → begins_other text ≡ true
+    by_cases true e rest k = subst (λ (t : Text). begins_other t ≡ true) ((bytes_eq-Decides word.name text).0 e) (grind (arith, h))
+    by_cases false e rest k = rest k
+
+no_digits : (text : Text) → begins_other text ≡ true → AllDigits 10 text → ⊥
+no_digits [] h digits = let f : false ≡ true = h in cc
+no_digits (b ∷ bs) h digits = let first = digits.0 in grind (arith, nat_tests, h, first)
+
+name_no_number : (text : Text) (n m : ℕ) → number_in proto_names text ≡ Some n → m ≤ 255 → text ≡ decimal m → ⊥
+name_no_number text n m named small is =
+    no_digits text (name_begins proto_names text n refl named) (subst (AllDigits 10) (sym is) (decimal_is_IsNumeral m (omega (arith, small))).0.1)
+
+pub proto_once : (text : Text) (n m : ℕ) → SpellsProto text n → SpellsProto text m → n ≡ m
+proto_once text n m (inl p) (inl q) = let h : Some n ≡ Some m = sym p ∙ q in cc
+proto_once text n m (inl p) (inr q) = absurd (name_no_number text n m p q.0 q.1)
+proto_once text n m (inr p) (inl q) = absurd (name_no_number text m n q p.0 p.1)
+proto_once text n m (inr p) (inr q) = let a = p.0 in let b = q.0 in decimal_injective n m (omega (arith, a)) (omega (arith, b)) (sym p.1 ∙ q.1)
+
+-- the group at a place is among the groups
+contains_here : (gs : List GroupWords) (i : ℕ) (g : GroupWords) → i < length gs → g ≡ get_or gs i g → Contains (groups_of gs) (group_of g)
+contains_here [] i g inside is = absurd (omega (arith, inside))
+contains_here (x ∷ gs) zero g inside is = (0, omega arith, ap group_of (sym is))
+contains_here (x ∷ gs) (suc i) g inside is = let more = contains_here gs i g (omega (arith, inside)) is in let small = more.1 in (suc more.0, omega (arith, small), more.2)
+
+contains_cases : (g : Group) (gs : List Group) (x : Group) → Contains (g ∷ gs) x → (g ≡ x) ⊎ Contains gs x
+contains_cases g gs x (zero, inside, is) = inl is
+contains_cases g gs x (suc k, inside, is) = inr (k, omega (arith, inside), is)
+
+in_base : (gs : List Group) (n : Bool) (o : Text) (a : List Text) → Contains gs (Base n o a) → is_among (base_of gs) o ≡ true
+in_base [] n o a has = let f = has.1 in absurd (omega (arith, f))
+in_base (g ∷ gs) n o a has = by_cases g (contains_cases g gs (Base n o a) has) (in_base gs n o a)
+  where
+    by_cases : (g : Group) → (g ≡ Base n o a) ⊎ Contains gs (Base n o a) → (Contains gs (Base n o a) → is_among (base_of gs) o ≡ true) → is_among (base_of (g ∷ gs)) o ≡ true
+    by_cases (Base m p b) (inl is) rest = let e : p ≡ o = cc in let f = (bytes_eq-Decides p o).1 e in grind (arith, f)
+    by_cases (Base m p b) (inr has) rest = let e = rest has in grind (arith, e)
+    by_cases (Module name) (inl is) rest = cc
+    by_cases (Module name) (inr has) rest = rest has
+    by_cases (ModuleOption c m p b) (inl is) rest = cc
+    by_cases (ModuleOption c m p b) (inr has) rest = rest has
+
+rest_differs : (g : Group) (gs : List Group) → all_differ (base_of (g ∷ gs)) ≡ true → all_differ (base_of gs) ≡ true
+rest_differs (Base n o a) gs h = grind (arith, h)
+rest_differs (Module name) gs h = h
+rest_differs (ModuleOption c n o a) gs h = h
+
+not_twice : (gs : List Group) (g : Group) (n m : Bool) (o : Text) (a b : List Text) → all_differ (base_of (g ∷ gs)) ≡ true → g ≡ Base n o a → Contains gs (Base m o b) → ⊥
+not_twice gs g n m o a b h is has =
+    let twice = in_base gs m o b has in
+    let once : (not (is_among (base_of gs) o) && all_differ (base_of gs)) ≡ true = subst (λ (x : Group). all_differ (base_of (x ∷ gs)) ≡ true) is h in
+    absurd (grind (arith, twice, once))
+
+-- an option that needs no module has one list of arguments
+one_base : (gs : List Group) (n m : Bool) (o : Text) (a b : List Text) → all_differ (base_of gs) ≡ true → Contains gs (Base n o a) → Contains gs (Base m o b) → a ≡ b
+one_base [] n m o a b h p q = let f = p.1 in absurd (omega (arith, f))
+one_base (g ∷ gs) n m o a b h p q = by_cases (contains_cases g gs (Base n o a) p) (contains_cases g gs (Base m o b) q) (one_base gs n m o a b (rest_differs g gs h))
+  where
+    by_cases : (g ≡ Base n o a) ⊎ Contains gs (Base n o a) → (g ≡ Base m o b) ⊎ Contains gs (Base m o b) → (Contains gs (Base n o a) → Contains gs (Base m o b) → a ≡ b) → a ≡ b
+    by_cases (inl e) (inl f) rest = let same : Base n o a ≡ Base m o b = sym e ∙ f in cc
+    by_cases (inl e) (inr has) rest = absurd (not_twice gs g n m o a b h e has)
+    by_cases (inr has) (inl f) rest = absurd (not_twice gs g m n o b a h f has)
+    by_cases (inr p) (inr q) rest = rest p q
+
+pub line_once : (gs : List Group) (n m : ℕ) → all_differ (base_of gs) ≡ true → LineProtocol gs n → LineProtocol gs m → n ≡ m
+line_once gs n m h (name, (has, spells, ports)) (other, (has', spells', ports')) =
+    let args : name ∷ [] ≡ other ∷ [] = one_base gs false false (codes "-p") (name ∷ []) (other ∷ []) h has has' in
+    let same : name ≡ other = cc in
+    proto_once name n m spells (subst (λ (t : Text). SpellsProto t m) (sym same) spells')
+
+-- where the one argument names no protocol with ports, the group names none
+pub no_protocol_here : (g : Group) (negated : Bool) (option : Text) (arguments : List Text) (text : Text) → g ≡ Base negated option arguments → arguments ≡ text ∷ []
+    → ((n : ℕ) → SpellsProto text n → HasPorts n → ⊥)
+    → (name : Text) (n : ℕ) → g ≡ Base false (codes "-p") (name ∷ []) → SpellsProto name n → HasPorts n → ⊥
+no_protocol_here g negated option arguments text here one none name n is spells ports =
+    let same : Base negated option arguments ≡ Base false (codes "-p") (name ∷ []) = sym here ∙ is in
+    let args : arguments ≡ name ∷ [] = cc in
+    none n (subst (λ (t : Text). SpellsProto t n) (same_only arguments name text args one) spells) ports
+
+-- one group more that names none
+pub line_none_more : (gs : List GroupWords) (i : ℕ) (g : GroupWords) → i < length gs → g ≡ get_or gs i g → ((n : ℕ) → LineProtocol (groups_of (take i gs)) n → ⊥)
+    → ((name : Text) (n : ℕ) → group_of g ≡ Base false (codes "-p") (name ∷ []) → SpellsProto name n → HasPorts n → ⊥)
+    → (n : ℕ) → LineProtocol (groups_of (take (i + 1) gs)) n → ⊥
+line_none_more gs i g inside is before none n (name, (has, spells, ports)) =
+    let x = Base false (codes "-p") (name ∷ []) in
+    let e : groups_of (take (i + 1) gs) ≡ groups_of (take i gs) ++ group_of g ∷ [] =
+    ap groups_of (take_more gs i g inside ∙ ap (λ (v : GroupWords). take i gs ++ v ∷ []) (sym is)) ∙ map-append group_of (take i gs) (g ∷ []) in
+    by_cases x refl (Contains-append_cases (groups_of (take i gs)) (group_of g ∷ []) x (subst (λ (xs : List Group). Contains xs x) e has))
+  where
+    by_cases : (x : Group) → x ≡ Base false (codes "-p") (name ∷ []) → Contains (groups_of (take i gs)) x ⊎ Contains (group_of g ∷ []) x → ⊥
+    by_cases x same (inl left) = before n (name, (subst (λ (y : Group). Contains (groups_of (take i gs)) y) same left, spells, ports))
+    by_cases x same (inr right) = last x same (contains_cases (group_of g) [] x right)
+      where
+        last : (x : Group) → x ≡ Base false (codes "-p") (name ∷ []) → (group_of g ≡ x) ⊎ Contains [] x → ⊥
+        last x same (inl it) = none name n (it ∙ same) spells ports
+        last x same (inr nowhere) = let f = nowhere.1 in absurd (omega (arith, f))
+
+pub line_none_begin : (gs : List GroupWords) (n : ℕ) → LineProtocol (groups_of (take 0 gs)) n → ⊥
+line_none_begin gs n (name, (has, spells, ports)) = let f = has.1 in absurd (omega (arith, f))
+
+pub line_none_all : (gs : List GroupWords) (i : ℕ) → length gs ≤ i → ((n : ℕ) → LineProtocol (groups_of (take i gs)) n → ⊥) → (n : ℕ) → LineProtocol (groups_of gs) n → ⊥
+line_none_all gs i all none n line = none n (subst (λ (xs : List GroupWords). LineProtocol (groups_of xs) n) (sym (take_all i gs all)) line)
+
+-- the group at a place names the line's protocol
+pub line_here : (gs : List GroupWords) (i : ℕ) (g : GroupWords) (n : ℕ) → i < length gs → g ≡ get_or gs i g
+    → (name : Text) × ((group_of g ≡ Base false (codes "-p") (name ∷ [])) × SpellsProto name n × HasPorts n) → LineProtocol (groups_of gs) n
+line_here gs i g n inside is (name, (same, spells, ports)) =
+    (name, (subst (λ (x : Group). Contains (groups_of gs) x) same (contains_here gs i g inside is), spells, ports))

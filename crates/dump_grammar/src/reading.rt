@@ -1,0 +1,94 @@
+ghost use Rattle.std.specs.Prelude.{◌≡◌, ◌≤◌, List as Seq, IfSome, IfNone, IfOk, length};
+ghost use Rattle.std.specs.List.{AllByRecursion};
+ghost use Rattle.fw_rule.specs.declared.rule.Action.{Action as AnAction};
+ghost use Rattle.interval_set.specs.Numbers.{IsWidth};
+ghost use Rattle.dump_grammar.specs.Lines.{IsLine, Text, Word, words_of};
+ghost use Rattle.dump_grammar.specs.Printable.{IsPrintableLiteral};
+ghost use Rattle.dump_grammar.specs.RuleLines.{IsRuleLine};
+ghost use Rattle.dump_grammar.specs.Targets.{IsTarget, user_chain};
+ghost use Rattle.dump_grammar.specs.declared.rule.RuleLine.{RuleLine as ARule};
+
+use crate::division::groups;
+use crate::heads::rule_head;
+use crate::names::is_built_in;
+use crate::pieces::{first_word, is_bare};
+use crate::rows::{literals, options_differ};
+use crate::rule::RuleLine;
+use crate::targets::jump;
+use addr_text::Family;
+use chain_names::ChainNames;
+use dump_token::Token;
+use fw_rule::Action;
+use match_expr::{Bytes, List};
+use std::alloc::{AllocError, Global};
+
+fn user_number(names: &ChainNames, name: &[u8]) -> Option<u32>
+    ensures { result ≡ user_chain names.now name.now }
+{
+    if is_built_in(name) {
+        return None;
+    }
+    names.number(name)
+}
+
+// The action of the words after the groups of a rule line.
+fn target(alloc: Global, words: &[Token], names: &ChainNames) -> Result<Option<Action>, AllocError>
+    ghost chains: { Seq Text }
+    requires { chains ≡ names.now }
+    ensures some { IfOk result (λ o. IfSome o (λ a. IsTarget chains (words_of words.now) a)) }
+    ensures none { IfOk result (λ o. IfNone o ((a : AnAction) → IsTarget chains (words_of words.now) a → ⊥)) }
+{
+    let Some((option, rest)) = first_word(words) else {
+        return Ok(Some(Action::Pass));
+    };
+    let Some((name, following)) = first_word(rest) else {
+        return Ok(None);
+    };
+    if is_bare(option, b"-j") {
+        let number = user_number(names, name.text.as_slice());
+        return jump(alloc, name.text.as_slice(), following, number);
+    }
+    if !is_bare(option, b"-g") {
+        return Ok(None);
+    }
+    if !following.is_empty() {
+        return Ok(None);
+    }
+    Ok(Some(Action::Other(Bytes::of(b"-g".to_vec(alloc)?))))
+}
+
+/// What the words of a rule line say: `-A CHAIN` after an optional counter, groups, and perhaps a target. `names` are
+/// the declared chains. None comes exactly where the words are no rule line.
+pub fn rule_line<F: Family<W>, const W: u32>(
+    alloc: Global,
+    words: &[Token],
+    names: &ChainNames,
+) -> Result<Option<RuleLine<W>>, AllocError>
+    requires { IsWidth W }
+    ensures some { IfOk result (λ o. IfSome o (λ rule. IsRuleLine F.Reads names.now (words_of words.now) rule)) }
+    ensures none { IfOk result (λ o. IfNone o ((rule : ARule W) → IsRuleLine F.Reads names.now (words_of words.now) rule → ⊥)) }
+    ensures few { IfOk result (λ o. IfSome o (λ rule. length rule.literals ≤ length words.now)) }
+    // What is read can be printed, where no word of the line has a line feed.
+    ensures printable { IfOk result (λ o. IfSome o (λ rule. AllByRecursion (λ (word : Word). IsLine word.text) (words_of words.now) → AllByRecursion IsPrintableLiteral rule.literals)) }
+{
+    let Some((chain, rest)) = rule_head(words) else {
+        return Ok(None);
+    };
+    let Some((found, end)) = groups(alloc, rest)? else {
+        return Ok(None);
+    };
+    if !options_differ(found.as_slice()) {
+        return Ok(None);
+    }
+    let Some(literals) = literals::<F, W>(alloc, found.as_slice())? else {
+        return Ok(None);
+    };
+    let Some(action) = target(alloc, end, names)? else {
+        return Ok(None);
+    };
+    Ok(Some(RuleLine {
+        chain: Bytes::of(chain.to_vec(alloc)?),
+        literals: List::of(literals),
+        action,
+    }))
+}
