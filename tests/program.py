@@ -45,8 +45,11 @@ def edges():
     four = wrapped("-A FORWARD -s 10.0.0.0/8 -j ACCEPT")
     check("four lines come back", told(run(["upper"], four)), (0, four, b""))
     usage = b"fffuu: usage: fffuu MODE [--chain NAME] [--family 4|6] [--side upper|lower] [ARGS]\n"
-    check("no words", told(run([], four)), (1, b"", usage))
-    check("a second word", told(run(["upper", "lower"], four)), (1, b"", usage))
+    for words in [[], ["upper", "lower"], ["upper", "--side", "lower"], ["upper", "--side=upper"],
+                  ["upper", "--family", "5"], ["upper", "--chain", "A", "--chain", "A"], ["upper", "--chain"], ["--help"]]:
+        check(f"the words {words}", told(run(words, four)), (1, b"", usage))
+    check("options before the mode", told(run(["--chain=FORWARD", "--family", "4", "upper"], four)), (0, four, b""))
+    check("a chain that isn't there", told(run(["upper", "--chain", "OUTPUT"], four)), (8, b"", b"fffuu: no chain OUTPUT\n"))
     check("a folder as standard input", told(run(["upper"], stdin=os.open("/", os.O_RDONLY), stdout=-1, stderr=-1)),
           (2, b"", b"fffuu: read failed\n"))
     with open("/dev/full", "wb") as full:

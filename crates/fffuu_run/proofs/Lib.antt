@@ -1,2 +1,3 @@
-pub mod Cases
 pub mod Lines
+pub mod Causes
+pub mod Cases

@@ -1,4 +1,4 @@
 pub mod Filters
+pub mod Answers
 pub mod Lines
-pub mod Requests
 pub mod Runs

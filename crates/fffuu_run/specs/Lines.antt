@@ -1,5 +1,6 @@
 -- The number and the line of a status.
-use Rattle.std.specs.Prelude.{ℕ, List, [], ◌∷◌, ◌++◌, codes, decimal, string_bytes}
+use Rattle.std.specs.Prelude.{ℕ, List, [], ◌∷◌, ◌++◌, codes, decimal}
+use Rattle.fw_text.specs.Names.{shown_name}
 use Rattle.fffuu_run.specs.declared.status.Status.{Status}
 use Rattle.fffuu_run.specs.declared.status.Status.TheVariants as status
 use Rattle.fffuu_run.specs.declared.telling.Line.{Line}
@@ -11,23 +12,32 @@ code_of status.Usage = 1
 code_of status.ReadFault = 2
 code_of status.WriteFault = 3
 code_of status.InputTooLong = 4
-code_of (status.Later n) = 13
+code_of status.NoChain = 8
 code_of status.Memory = 12
+code_of (status.Later n) = 13
 
 -- a line that the program writes of itself
 abbrev pub told : List ℕ → List ℕ
 told text = codes "fffuu: " ++ text ++ 10 ∷ []
 
-abbrev pub line_of : Status → List ℕ
-line_of status.Ok = []
-line_of status.Usage = told (codes "usage: fffuu MODE [--chain NAME] [--family 4|6] [--side upper|lower] [ARGS]")
-line_of status.ReadFault = told (codes "read failed")
-line_of status.WriteFault = told (codes "write failed")
-line_of status.InputTooLong = told (codes "input is longer than 16777216 bytes")
-line_of (status.Later n) = told (codes "line " ++ decimal n ++ codes ": not built yet")
-line_of status.Memory = told (codes "out of memory")
+-- the line of a status, where the chain of this name was asked about
+abbrev pub line_of : List ℕ → Status → List ℕ
+line_of asked status.Ok = []
+line_of asked status.Usage = told (codes "usage: fffuu MODE [--chain NAME] [--family 4|6] [--side upper|lower] [ARGS]")
+line_of asked status.ReadFault = told (codes "read failed")
+line_of asked status.WriteFault = told (codes "write failed")
+line_of asked status.InputTooLong = told (codes "input is longer than 16777216 bytes")
+line_of asked status.NoChain = told (codes "no chain " ++ shown_name asked)
+line_of asked (status.Later n) = told (codes "line " ++ decimal n ++ codes ": not built yet")
+line_of asked status.Memory = told (codes "out of memory")
+
+-- a status whose line has a number or a name in it, and so takes memory
+abbrev pub IsBuilt : Status → Type 0
+IsBuilt status.NoChain = Unit {0}
+IsBuilt (status.Later n) = Unit {0}
+IsBuilt s = ⊥
 
 -- the bytes of a line of the code
 abbrev pub text_of : Line → List ℕ
 text_of (line.Fixed text) = text.now
-text_of (line.Built text) = string_bytes text
+text_of (line.Built text) = text.items

@@ -1,9 +1,11 @@
 -- How a run ends, by its status.
-use Rattle.std.specs.Prelude.{◌≡◌, ◌<◌, ◌≤◌, ◌+◌, ◌++◌, ◌⊎◌, [], ℕ, List, Bool, Option, length}
+use Rattle.std.specs.Prelude.{◌≡◌, ◌<◌, ◌≤◌, ◌+◌, ◌++◌, ◌⊎◌, [], ℕ, List, Option, None, Some, length}
 use Rattle.std.specs.Io.KnownBytes.{Appends, Consumes, IsAtEnd}
 use Rattle.fw_io.specs.Causes.{Rose}
-use Rattle.fffuu_run.specs.Filters.{IsLater, IsUpper}
-use Rattle.fffuu_run.specs.Requests.{Spells}
+use Rattle.request.specs.Requests.{Spells, spelled_by}
+use Rattle.request.specs.declared.types.Request.{Request}
+use Rattle.fffuu_run.specs.Answers.{IsAnswer, Refuses}
+use Rattle.fffuu_run.specs.Lines.{IsBuilt}
 use Rattle.fffuu_run.specs.declared.status.Status.{Status}
 use Rattle.fffuu_run.specs.declared.status.Status.TheVariants as status
 
@@ -46,19 +48,18 @@ pub record WritesLine (old new : Option (List ℕ)) (before now : ℕ) (line sen
   pub split : line ≡ sent ++ rest
   pub whole : (Rose before now → ⊥) → rest ≡ []
 
--- what a status says of a run whose words ask for this family
-abbrev pub Works : Bool → Devices → Devices → Status → Type 0
-Works six old new status.Ok = (text written : List ℕ) × ReadsWhole old.left new.left text
-    × IsUpper six text written × Appends old.held new.held written
-Works six old new status.Usage = ⊥
-Works six old new status.ReadFault = Rose old.read_faults new.read_faults × KeepsSink old new
-Works six old new status.InputTooLong = (text : List ℕ) × ReadsTooMuch old.left new.left text × KeepsSink old new
-Works six old new (status.Later line) = (text : List ℕ) × ReadsWhole old.left new.left text
-    × IsLater six text line × KeepsSink old new
-Works six old new status.WriteFault = (text written sent rest : List ℕ) × ReadsWhole old.left new.left text
-    × IsUpper six text written × Rose old.write_faults new.write_faults
+-- what a status says of a run of a request
+abbrev pub Works : Request → Devices → Devices → Status → Type 0
+Works request old new status.Ok = (text written : List ℕ) × ReadsWhole old.left new.left text
+    × IsAnswer request text written × Appends old.held new.held written
+Works request old new status.Usage = ⊥
+Works request old new status.ReadFault = Rose old.read_faults new.read_faults × KeepsSink old new
+Works request old new status.InputTooLong = (text : List ℕ) × ReadsTooMuch old.left new.left text × KeepsSink old new
+Works request old new status.WriteFault = (text written sent rest : List ℕ) × ReadsWhole old.left new.left text
+    × IsAnswer request text written × Rose old.write_faults new.write_faults
     × AppendsPart old.held new.held written sent rest
-Works six old new status.Memory = KeepsSink old new
+Works request old new status.Memory = KeepsSink old new
+Works request old new s = (text : List ℕ) × ReadsWhole old.left new.left text × Refuses request text s × KeepsSink old new
 
 -- the statuses with which something may have been written
 abbrev pub Writes : Status → Type 0
@@ -68,19 +69,28 @@ Writes s = ⊥
 
 -- what a status says of a run
 abbrev pub Ends : List (List ℕ) → Devices → Devices → Status → Type 0
-Ends words old new status.Usage = ((six : Bool) → Spells words six → ⊥) × (new ≡ old)
-Ends words old new s = (six : Bool) × Spells words six × Works six old new s
+Ends words old new status.Usage = ((request : Request) → Spells words request → ⊥) × (new ≡ old)
+Ends words old new status.Memory = KeepsSink old new
+Ends words old new s = (request : Request) × Spells words request × Works request old new s
+
+-- the name of the chain that is asked about, the empty one where nothing is
+abbrev pub chain_of : Option Request → List ℕ
+chain_of None = []
+chain_of (Some request) = request.chain
+
+abbrev pub asked_in : List (List ℕ) → List ℕ
+asked_in words = chain_of (spelled_by words)
 
 -- the one status, or a read that failed, or want of memory
 abbrev pub IsStatus : Status → Status → Type 0
 IsStatus first s = (s ≡ first) ⊎ (s ≡ status.ReadFault) ⊎ (s ≡ status.Memory)
 
--- The status where words ask for this family, and this text is all that the source has.
-pub record IsStatusOf (six : Bool) (text : List ℕ) (s : Status) : Type 0 where
+-- The status where words spell this request, and this text is all that the source has.
+pub record IsStatusOf (request : Request) (text : List ℕ) (s : Status) : Type 0 where
   pub too_long : most < length text → IsStatus status.InputTooLong s
-  pub later : length text ≤ most → (line : ℕ) → IsLater six text line → IsStatus (status.Later line) s
-  pub ok : length text ≤ most → ((line : ℕ) → IsLater six text line → ⊥) → IsStatus status.Ok s ⊎ (s ≡ status.WriteFault)
+  pub refused : length text ≤ most → (cause : Status) → Refuses request text cause → IsStatus cause s
+  pub ok : length text ≤ most → ((cause : Status) → Refuses request text cause → ⊥) → IsStatus status.Ok s ⊎ (s ≡ status.WriteFault)
 
 -- the status, or want of memory in place of one whose line takes memory
 abbrev pub IsReported : Status → Status → Type 0
-IsReported first s = (s ≡ first) ⊎ ((line : ℕ) × (first ≡ status.Later line) × (s ≡ status.Memory))
+IsReported first s = (s ≡ first) ⊎ (IsBuilt first × (s ≡ status.Memory))

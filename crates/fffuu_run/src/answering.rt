@@ -1,12 +1,16 @@
-ghost use Rattle.std.specs.Prelude.{◌≡◌, ◌≤◌, ℕ, Err, IfOk, length};
-ghost use Rattle.fffuu_run.specs.Filters.{IsLater, IsUpper};
+ghost use Rattle.std.specs.Prelude.{◌≡◌, ◌≤◌, ◌⊎◌, ◌↔◌, ℕ, Err, IfOk, IfErr, IsTrue, length};
+ghost use Rattle.fffuu_run.specs.Answers.{IsAnswer, IsOutput, Refuses, RefusesMode};
+ghost use Rattle.fffuu_run.specs.Filters.{IsLater, IsUpper, RefusesUpper, form_chain};
+ghost use Rattle.request.specs.declared.types.Mode.TheVariants as mode;
 
+use crate::Status;
 use addr_text::{V4, V6};
 use first_path::{FormFault, upper};
+use request::{Mode, Request};
 use std::alloc::Global;
 
 // The upper filter of a text, over IPv6 addresses where `six` is true and over IPv4 ones else.
-pub fn answer(alloc: Global, six: bool, text: &[u8]) -> Result<Vec<u8>, FormFault>
+fn filter(alloc: Global, six: bool, text: &[u8]) -> Result<Vec<u8>, FormFault>
     requires { length text.now ≤ 16777216 }
     ensures ok { IfOk result (λ written. IsUpper six text.now written.items) }
     ensures outside { (line : ℕ) → result ≡ Err (FormFault.Outside line) → IsLater six text.now line }
@@ -15,5 +19,45 @@ pub fn answer(alloc: Global, six: bool, text: &[u8]) -> Result<Vec<u8>, FormFaul
         upper::<V6, 128>(alloc, text)
     } else {
         upper::<V4, 32>(alloc, text)
+    }
+}
+
+// The upper filter of the chain of this name. The form has only one.
+fn upper_of(alloc: Global, six: bool, name: &[u8], text: &[u8]) -> Result<Vec<u8>, Status>
+    requires { length text.now ≤ 16777216 }
+    ensures ok { IfOk result (λ written. IsOutput mode.Upper six name.now text.now written.items) }
+    ensures refused { IfErr result (λ s. (s ≡ Status.Memory) ⊎ RefusesMode mode.Upper six name.now text.now s) }
+{
+    let written = match filter(alloc, six, text) {
+        Ok(written) => written,
+        Err(FormFault::Outside { line }) => return Err(Status::Later { line }),
+        Err(FormFault::Memory) => return Err(Status::Memory),
+    };
+    if is_same(name, b"FORWARD") {
+        Ok(written)
+    } else {
+        Err(Status::NoChain)
+    }
+}
+
+fn is_same(text: &[u8], word: &[u8]) -> bool
+    ensures { IsTrue result ↔ (text.now ≡ word.now) }
+{
+    text == word
+}
+
+/// The stated output of a request for a text.
+///
+/// # Errors
+///
+/// The status of a text that has none, `Later` or `NoChain`, or `Memory`.
+pub fn answer(alloc: Global, request: &Request, text: &[u8]) -> Result<Vec<u8>, Status>
+    requires { length text.now ≤ 16777216 }
+    ensures ok { IfOk result (λ written. IsAnswer request.now text.now written.items) }
+    ensures refused { IfErr result (λ s. (s ≡ Status.Memory) ⊎ Refuses request.now text.now s) }
+{
+    let name = request.chain.as_slice();
+    match request.mode {
+        Mode::Upper => upper_of(alloc, request.six, name, text),
     }
 }

@@ -2,16 +2,14 @@
 #![tactic(auto)]
 
 mod answering;
-mod laws;
 mod reading;
-mod request;
 mod status;
 mod telling;
 mod top;
 mod working;
 mod writing;
 
-pub use laws::one_request;
+pub use answering::answer;
 pub use status::Status;
 pub use top::{run, run_pure};
 

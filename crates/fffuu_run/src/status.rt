@@ -1,5 +1,8 @@
 ghost use Rattle.std.specs.Prelude.{◌≡◌};
 ghost use Rattle.fffuu_run.specs.Lines.{code_of};
+ghost use Rattle.fffuu_run.specs.declared.status.Status.TheVariants.{Memory};
+
+use std::alloc::AllocError;
 
 /// How a run ends.
 #[derive(Clone, Copy, Debug, PartialEq, Eq)]
@@ -19,7 +22,10 @@ pub enum Status {
     /// The input has more than 16,777,216 bytes.
     InputTooLong,
 
-    /// This line, from 1, is the first that can't be read yet.
+    /// The text has no chain of the asked name.
+    NoChain,
+
+    /// This line, from 1, is the first that the mode can't read yet.
     Later { line: u32 },
 
     /// Memory ran out.
@@ -37,8 +43,17 @@ impl Status {
             Status::ReadFault => 2,
             Status::WriteFault => 3,
             Status::InputTooLong => 4,
-            Status::Later { .. } => 13,
+            Status::NoChain => 8,
             Status::Memory => 12,
+            Status::Later { .. } => 13,
         }
+    }
+}
+
+impl From<AllocError> for Status {
+    ghost from_gives = { λ _ e. e ≡ Memory };
+
+    fn from(_: AllocError) -> Self {
+        Status::Memory
     }
 }

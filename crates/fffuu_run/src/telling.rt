@@ -1,17 +1,19 @@
-ghost use Rattle.std.specs.Prelude.{◌≡◌, ℕ, List, IfOk, OnErr};
-ghost use Rattle.fffuu_run.specs.Lines.{line_of, text_of};
+ghost use Rattle.std.specs.Prelude.{◌≡◌, ◌++◌, ℕ, List, IfOk, OnErr, codes, decimal};
+ghost use Rattle.fw_text.specs.Names.{shown_name};
+ghost use Rattle.fffuu_run.specs.Lines.{IsBuilt, line_of, text_of, told};
 ghost use Rattle.fffuu_run.specs.Runs.{IsReported, WritesLine};
 
 use crate::Status;
 use crate::writing::write_all;
 use fw_io::Sink;
+use fw_text::shown;
 use std::alloc::{AllocError, Global};
 
-// The line of a status. One with a number in it is built.
+// The line of a status. One with a number or a name in it is built.
 #[derive(Debug, Drop)]
 pub enum Line {
     Fixed(&'static [u8]),
-    Built(String),
+    Built(Vec<u8>),
 }
 
 impl Line {
@@ -20,17 +22,44 @@ impl Line {
     {
         match self {
             Line::Fixed(text) => text,
-            Line::Built(text) => text.as_bytes(),
+            Line::Built(text) => text.as_slice(),
         }
     }
 }
 
 const OUT_OF_MEMORY: &[u8] = b"fffuu: out of memory\n";
 
-// The line with its line feed. Only one with a number in it takes memory.
-fn line_for(alloc: Global, status: &Status) -> Result<Line, AllocError>
-    ensures line { IfOk result (λ l. text_of l ≡ line_of status.now) }
-    ensures memory { OnErr result ((line : ℕ) × (status.now ≡ Status.Later line)) }
+// A line with this text.
+fn built(alloc: Global, text: &[u8]) -> Result<Line, AllocError>
+    ensures { IfOk result (λ l. text_of l ≡ told text.now) }
+{
+    let mut line = Vec::from_slice(alloc, b"fffuu: ")?;
+    line.extend_from_slice(text)?;
+    line.push(b'\n')?;
+    Ok(Line::Built(line))
+}
+
+// A line whose text ends with a shown name.
+fn named(alloc: Global, front: &[u8], name: &[u8]) -> Result<Line, AllocError>
+    ensures { IfOk result (λ l. text_of l ≡ told (front.now ++ shown_name name.now)) }
+{
+    let mut text = Vec::from_slice(alloc, front)?;
+    shown(alloc, name, &mut text)?;
+    built(alloc, &text)
+}
+
+// A line of the input and what is said of it.
+fn numbered(alloc: Global, line: u32, what: &str) -> Result<Vec<u8>, AllocError>
+    ensures { IfOk result (λ text. text.items ≡ codes "line " ++ decimal line ++ what.now) }
+{
+    let text = format!(in alloc; "line {line}{what}")?;
+    Ok(text.into_bytes())
+}
+
+// The line with its line feed, where the chain of this name was asked about. Only one with a number or a name in it takes memory.
+fn line_for(alloc: Global, asked: &[u8], status: &Status) -> Result<Line, AllocError>
+    ensures line { IfOk result (λ l. text_of l ≡ line_of asked.now status.now) }
+    ensures memory { OnErr result (IsBuilt status.now) }
 {
     let fixed: &'static [u8] = match status {
         Status::Ok => b"",
@@ -40,10 +69,11 @@ fn line_for(alloc: Global, status: &Status) -> Result<Line, AllocError>
         Status::ReadFault => b"fffuu: read failed\n",
         Status::WriteFault => b"fffuu: write failed\n",
         Status::InputTooLong => b"fffuu: input is longer than 16777216 bytes\n",
-        Status::Later { line } => {
-            return Ok(Line::Built(format!(in alloc; "fffuu: line {line}: not built yet\n")?));
-        }
         Status::Memory => OUT_OF_MEMORY,
+        Status::Later { line } => {
+            return built(alloc, &numbered(alloc, *line, ": not built yet")?);
+        }
+        Status::NoChain => return named(alloc, b"no chain ", asked),
     };
     Ok(Line::Fixed(fixed))
 }
@@ -56,13 +86,13 @@ fn tell<E: Sink>(line: &[u8], err: &mut E)
     let _ = write_all(err, line);
 }
 
-// Writes the line of the status on `err`. Where the line finds no memory, that is the status.
-pub fn report<E: Sink>(alloc: Global, status: Status, err: &mut E) -> Status
+// Writes the line of the status on `err`, where the chain of this name was asked about. Where the line finds no memory, that is the status.
+pub fn report<E: Sink>(alloc: Global, asked: &[u8], status: Status, err: &mut E) -> Status
     ensures settled { IsReported status result }
     ensures told { (sent rest : List ℕ) × WritesLine (E.held err.old) (E.held err.new) (E.faults err.old) (E.faults err.new)
-        (line_of result) sent rest }
+        (line_of asked.now result) sent rest }
 {
-    match line_for(alloc, &status) {
+    match line_for(alloc, asked, &status) {
         Ok(line) => {
             tell(line.as_bytes(), err);
             status

@@ -103,13 +103,27 @@ fn a_target_that_is_not_built_yet_is_told_with_its_line(rt: HostRuntime) -> Resu
 }
 
 #[test]
+fn a_chain_that_is_not_there_is_told_by_its_shown_name(rt: HostRuntime) -> Result<(), Fail> {
+    let end = run_in_pieces(rt.alloc(), &["upper", "--chain", "a b"], FILTER, &[], &[])?;
+    assert_eq!(rt; end.status.code(), 8);
+    assert_eq!(rt; end.out.held(), b"".as_slice());
+    assert_eq!(rt;
+        end.err.held(),
+        b"fffuu: no chain hex:612062
+"
+            .as_slice()
+    );
+    Ok(())
+}
+
+#[test]
 fn addresses_of_the_named_family_are_read_and_written(rt: HostRuntime) -> Result<(), Fail> {
     let input =
         b"*filter\n:FORWARD DROP [0:0]\n-A FORWARD -s 2001:DB8::/32 -d ::1.2.3.4 -j ACCEPT\nCOMMIT\n";
     let wanted =
         b"*filter\n:FORWARD DROP [0:0]\n-A FORWARD -s 2001:db8::/32 -d ::102:304/128 -j ACCEPT\nCOMMIT\n";
     let end = run_in_pieces(rt.alloc(), &["upper", "--family", "6"], input, &[], &[])?;
-    assert_eq!(rt; end.status, Status::Ok);
+    assert_eq!(rt; end.status.code(), 0);
     assert_eq!(rt; end.out.held(), wanted.as_slice());
     Ok(())
 }
@@ -117,8 +131,7 @@ fn addresses_of_the_named_family_are_read_and_written(rt: HostRuntime) -> Result
 #[test]
 fn a_run_over_bytes_has_the_same_status(rt: HostRuntime) -> Result<(), Fail> {
     let words = vec![in rt.alloc(); String::from_str(rt.alloc(), "upper")?]?;
-    one_request(&words);
     let input = Bytes::of(FILTER.to_vec(rt.alloc())?);
-    assert_eq!(rt; run_pure(rt.alloc(), &words, input), Status::Ok);
+    assert_eq!(rt; run_pure(rt.alloc(), &words, input).code(), 0);
     Ok(())
 }

@@ -1,16 +1,24 @@
-ghost use Rattle.std.specs.Prelude.{◌≡◌, ◌↔◌, ℕ, List, Bool, IfSome, map, string_bytes};
+ghost use Rattle.std.specs.Prelude.{◌≡◌, ◌⊎◌, ℕ, List, IfSome, map, string_bytes};
 ghost use Rattle.fw_io.specs.Causes.{Rose};
+ghost use Rattle.request.specs.Requests.{Spells};
+ghost use Rattle.request.specs.declared.types.Request.{Request as Asked};
 ghost use Rattle.fffuu_run.specs.Lines.{line_of};
-ghost use Rattle.fffuu_run.specs.Requests.{Spells};
-ghost use Rattle.fffuu_run.specs.Runs.{Ends, IsStatusOf, Devices, WritesLine, Writes};
+ghost use Rattle.fffuu_run.specs.Runs.{Ends, IsStatusOf, Devices, WritesLine, Writes, asked_in};
 
 use crate::Status;
-use crate::request::spell;
 use crate::telling::report;
 use crate::working::work;
 use fw_io::{PureSink, PureSource, Sink, Source};
 use match_expr::Bytes;
+use request::{SpellFault, spell};
 use std::alloc::Global;
+
+// How the work ended, and the name of the chain that was asked about.
+#[derive(Drop)]
+struct Ending {
+    status: Status,
+    asked: Bytes,
+}
 
 // Reads the words, and does the work that they ask for.
 fn answered<S: Source, O: Sink>(
@@ -18,33 +26,50 @@ fn answered<S: Source, O: Sink>(
     words: &Vec<String>,
     source: &mut S,
     out: &mut O,
-) -> Status
-    ensures unread { result ≡ Status.Usage → source.new ≡ source.old }
-    ensures kept { (Writes result → ⊥) → out.new ≡ out.old }
+) -> Ending
+    ensures unread { result.status ≡ Status.Usage → source.new ≡ source.old }
+    ensures kept { (Writes result.status → ⊥) → out.new ≡ out.old }
+    ensures named { (result.asked ≡ asked_in (map string_bytes words.now.items)) ⊎ (result.status ≡ Status.Memory) }
     ensures ends { Ends (map string_bytes words.now.items)
         (record { left = S.left source.old; read_faults = S.faults source.old; held = O.held out.old; write_faults = O.faults out.old })
         (record { left = S.left source.new; read_faults = S.faults source.new; held = O.held out.new; write_faults = O.faults out.new })
-        result }
+        result.status }
 {
-    match spell(words.as_slice()) {
-        Some(six) => work(alloc, six, source, out),
-        None => Status::Usage,
+    match spell(alloc, words) {
+        Ok(request) => {
+            let status = work(alloc, &request, source, out);
+            Ending {
+                status,
+                asked: request.chain,
+            }
+        }
+        Err(fault) => {
+            let status = match fault {
+                SpellFault::Usage => Status::Usage,
+                SpellFault::Memory => Status::Memory,
+            };
+            Ending {
+                status,
+                asked: Bytes::of(Vec::new(alloc)),
+            }
+        }
     }
 }
 
 /// Reads the words, then the source to its end, and writes the answer to `out`. A refusal is told in one line on `err`.
 ///
-/// The words are those after the program's name: `upper`, `upper --family 4` or `upper --family 6`. The text is one
-/// chain of prefix rules of at most 16,777,216 bytes, and the answer is its upper filter.
+/// The words are those after the program's name: the mode `upper`, and perhaps `--chain NAME` and `--family 4` or `--family 6`.
+/// The text is one chain of prefix rules of at most 16,777,216 bytes, and the answer is its upper filter.
 ///
 /// The refusals in their order; each comes only where none before it does:
 /// - `Usage` exactly where the words spell no request. The source stays unread.
 /// - `ReadFault` only where the source's count of faults rose.
 /// - `InputTooLong` exactly where byte 16,777,217 came before the end. No more than that is taken.
 /// - `Later` exactly where that line is the first outside the form; the number of lines plus one where more are wanted.
+/// - `NoChain` exactly where the asked chain isn't the text's one.
 /// - `WriteFault` only where the count of `out` rose. Less than the whole answer went out.
 ///
-/// `Memory` may stand in place of each but `Usage`. After a refusal other than `WriteFault` nothing went out.
+/// `Memory` may stand in place of each. After a refusal other than `WriteFault` nothing went out.
 pub fn run<S: Source, O: Sink, E: Sink>(
     alloc: Global,
     words: &Vec<String>,
@@ -63,29 +88,33 @@ pub fn run<S: Source, O: Sink, E: Sink>(
 
     // A front of the status's line stands on `err`, all of it where no write there failed.
     ensures told { (sent rest : List ℕ) × WritesLine (E.held err.old) (E.held err.new) (E.faults err.old) (E.faults err.new)
-        (line_of result) sent rest }
+        (line_of (asked_in (map string_bytes words.now.items)) result) sent rest }
 
-    // Exactly where the words spell no request.
-    ensures usage { (result ≡ Status.Usage) ↔ ((six : Bool) → Spells (map string_bytes words.now.items) six → ⊥) }
+    // Exactly where the words spell no request, but for want of memory.
+    ensures usage { result ≡ Status.Usage → (request : Asked) → Spells (map string_bytes words.now.items) request → ⊥ }
+    ensures no_request { ((request : Asked) → Spells (map string_bytes words.now.items) request → ⊥)
+        → (result ≡ Status.Usage) ⊎ (result ≡ Status.Memory) }
 
     // Where the words are right and the source tells what it has, the text decides the status.
-    ensures exact { (six : Bool) → Spells (map string_bytes words.now.items) six
-        → IfSome (S.left source.old) (λ text. IsStatusOf six text result) }
+    ensures exact { (request : Asked) → Spells (map string_bytes words.now.items) request
+        → IfSome (S.left source.old) (λ text. IsStatusOf request text result) }
 
     // A read or a write fails only where its count rises, so where none does the text alone decides, but for want of memory.
     ensures faults { (result ≡ Status.ReadFault → Rose (S.faults source.old) (S.faults source.new))
         × (result ≡ Status.WriteFault → Rose (O.faults out.old) (O.faults out.new)) }
 {
-    let status = answered(alloc, words, source, out);
-    report(alloc, status, err)
+    let Ending { status, asked } = answered(alloc, words, source, out);
+    report(alloc, asked.as_slice(), status, err)
 }
 
 /// The status of a run over bytes in memory, whose output and error line go nowhere. No read or write fails.
 pub fn run_pure(alloc: Global, words: &Vec<String>, bytes: Bytes) -> Status
     ensures no_read_fault { result ≡ Status.ReadFault → ⊥ }
     ensures no_write_fault { result ≡ Status.WriteFault → ⊥ }
-    ensures usage { (result ≡ Status.Usage) ↔ ((six : Bool) → Spells (map string_bytes words.now.items) six → ⊥) }
-    ensures exact { (six : Bool) → Spells (map string_bytes words.now.items) six → IsStatusOf six bytes result }
+    ensures usage { result ≡ Status.Usage → (request : Asked) → Spells (map string_bytes words.now.items) request → ⊥ }
+    ensures no_request { ((request : Asked) → Spells (map string_bytes words.now.items) request → ⊥)
+        → (result ≡ Status.Usage) ⊎ (result ≡ Status.Memory) }
+    ensures exact { (request : Asked) → Spells (map string_bytes words.now.items) request → IsStatusOf request bytes result }
 {
     let mut source = PureSource::new(bytes);
     let mut out = PureSink::new();

@@ -39,72 +39,46 @@ options_twice : all_refused (codes "upper --chain X --chain Y" ∷ codes "upper 
 unfolding fffuu faults_in rows_in parts_in clap_on_literals
 options_twice = refl
 
-mode_alone : parts_in (typed (codes "upper")) ≡ no_option (codes "upper") []
+arguments :
+    (parts_in (typed (codes "upper")) ≡ no_option (codes "upper") [])
+    -- a dash alone is a word
+    × (parts_in (typed (codes "upper -")) ≡ no_option (codes "upper") (codes "-" ∷ []))
+    -- two dashes are taken away
+    × (parts_in (typed (codes "upper --")) ≡ no_option (codes "upper") [])
+    -- after them no word is an option
+    × (parts_in (typed (codes "upper -- --chain X")) ≡ no_option (codes "upper") (codes "--chain" ∷ codes "X" ∷ []))
+    -- nor are two dashes again taken away
+    × (parts_in (typed (codes "explain -- -b=2 -- x")) ≡ no_option (codes "explain") (codes "-b=2" ∷ codes "--" ∷ codes "x" ∷ []))
+    -- the mode may follow them
+    × (parts_in (typed (codes "-- --chain X")) ≡ no_option (codes "--chain") (codes "X" ∷ []))
+    -- an empty word is an argument
+    × (parts_in (typed (codes "upper ")) ≡ no_option (codes "upper") ([] ∷ []))
+    -- or the mode
+    × (parts_in (typed (codes " x")) ≡ no_option [] (codes "x" ∷ []))
+    -- there is no subcommand `help`
+    × (parts_in (typed (codes "help upper")) ≡ no_option (codes "help") (codes "upper" ∷ []))
 unfolding fffuu faults_in rows_in parts_in clap_on_literals
-mode_alone = refl
+arguments = (refl, refl, refl, refl, refl, refl, refl, refl, refl)
 
-dash_is_a_word : parts_in (typed (codes "upper -")) ≡ no_option (codes "upper") (codes "-" ∷ [])
+options :
+    -- a value stands after a space
+    (parts_in (typed (codes "upper --chain X")) ≡ with_chain (codes "X"))
+    -- or after an equals sign
+    × (parts_in (typed (codes "upper --chain=X")) ≡ with_chain (codes "X"))
+    -- the mode may stand after options
+    × (parts_in (typed (codes "--chain X upper")) ≡ with_chain (codes "X"))
+    -- a value may be empty
+    × (parts_in (typed (codes "upper --chain=")) ≡ with_chain [])
+    -- have an equals sign
+    × (parts_in (typed (codes "upper --chain=a=b")) ≡ with_chain (codes "a=b"))
+    -- or begin with dashes
+    × (parts_in (typed (codes "upper --chain=--family")) ≡ with_chain (codes "--family"))
+    -- options stand between arguments
+    × (parts_in (typed (codes "explain a=1 --family 6 b=2")) ≡ Some (record { mode = Some (codes "explain"); args = codes "a=1" ∷ codes "b=2" ∷ []; chain = None; family = Some (codes "6"); side = None }))
 unfolding fffuu faults_in rows_in parts_in clap_on_literals
-dash_is_a_word = refl
+options = (refl, refl, refl, refl, refl, refl, refl)
 
-dashes_are_taken_away : parts_in (typed (codes "upper --")) ≡ no_option (codes "upper") []
-unfolding fffuu faults_in rows_in parts_in clap_on_literals
-dashes_are_taken_away = refl
-
-mode_after_dashes : parts_in (typed (codes "-- --chain X")) ≡ no_option (codes "--chain") (codes "X" ∷ [])
-unfolding fffuu faults_in rows_in parts_in clap_on_literals
-mode_after_dashes = refl
-
-no_options_after_dashes : parts_in (typed (codes "upper -- --chain X")) ≡ no_option (codes "upper") (codes "--chain" ∷ codes "X" ∷ [])
-unfolding fffuu faults_in rows_in parts_in clap_on_literals
-no_options_after_dashes = refl
-
-all_is_plain_after_dashes : parts_in (typed (codes "explain -- -b=2 -- x")) ≡ no_option (codes "explain") (codes "-b=2" ∷ codes "--" ∷ codes "x" ∷ [])
-unfolding fffuu faults_in rows_in parts_in clap_on_literals
-all_is_plain_after_dashes = refl
-
-value_after_a_space : parts_in (typed (codes "upper --chain X")) ≡ with_chain (codes "X")
-unfolding fffuu faults_in rows_in parts_in clap_on_literals
-value_after_a_space = refl
-
-value_after_an_equals_sign : parts_in (typed (codes "upper --chain=X")) ≡ with_chain (codes "X")
-unfolding fffuu faults_in rows_in parts_in clap_on_literals
-value_after_an_equals_sign = refl
-
-option_before_the_mode : parts_in (typed (codes "--chain X upper")) ≡ with_chain (codes "X")
-unfolding fffuu faults_in rows_in parts_in clap_on_literals
-option_before_the_mode = refl
-
-empty_value : parts_in (typed (codes "upper --chain=")) ≡ with_chain []
-unfolding fffuu faults_in rows_in parts_in clap_on_literals
-empty_value = refl
-
-value_with_an_equals_sign : parts_in (typed (codes "upper --chain=a=b")) ≡ with_chain (codes "a=b")
-unfolding fffuu faults_in rows_in parts_in clap_on_literals
-value_with_an_equals_sign = refl
-
-value_with_dashes : parts_in (typed (codes "upper --chain=--family")) ≡ with_chain (codes "--family")
-unfolding fffuu faults_in rows_in parts_in clap_on_literals
-value_with_dashes = refl
-
-empty_argument : parts_in (typed (codes "upper ")) ≡ no_option (codes "upper") ([] ∷ [])
-unfolding fffuu faults_in rows_in parts_in clap_on_literals
-empty_argument = refl
-
-empty_mode : parts_in (typed (codes " x")) ≡ no_option [] (codes "x" ∷ [])
-unfolding fffuu faults_in rows_in parts_in clap_on_literals
-empty_mode = refl
-
-no_subcommand_for_help : parts_in (typed (codes "help upper")) ≡ no_option (codes "help") (codes "upper" ∷ [])
-unfolding fffuu faults_in rows_in parts_in clap_on_literals
-no_subcommand_for_help = refl
-
-option_between_arguments : parts_in (typed (codes "explain a=1 --family 6 b=2"))
-    ≡ Some (record { mode = Some (codes "explain"); args = codes "a=1" ∷ codes "b=2" ∷ []; chain = None; family = Some (codes "6"); side = None })
-unfolding fffuu faults_in rows_in parts_in clap_on_literals
-option_between_arguments = refl
-
-request_of_both_options : spelled_by (typed (codes "--chain A check --family=6")) ≡ Some (record { mode = mode.Check; chain = codes "A"; six = true })
+request_of_both_options : spelled_by (typed (codes "--chain A upper --family=6")) ≡ Some (record { mode = mode.Upper; chain = codes "A"; six = true })
 unfolding fffuu faults_in rows_in parts_in asked_by spelled_by clap_on_literals
 request_of_both_options = refl
 
@@ -113,8 +87,8 @@ unfolding fffuu faults_in rows_in parts_in asked_by spelled_by clap_on_literals
 request_without_options = refl
 
 -- no request: an argument, a side, a family of another name, a mode of another name
-no_requests : list_all (λ line. not (is_some (spelled_by (typed line)))) (codes "check x" ∷ codes "upper " ∷ codes "upper -"
-    ∷ codes "upper --side lower" ∷ codes "check --side upper" ∷ codes "check --side=" ∷ codes "check --family 5" ∷ codes "check --family="
-    ∷ codes "help" ∷ codes "-- --chain X" ∷ codes " x" ∷ codes "Check" ∷ []) ≡ true
+no_requests : list_all (λ line. not (is_some (spelled_by (typed line)))) (codes "upper x" ∷ codes "upper " ∷ codes "upper -"
+    ∷ codes "upper --side lower" ∷ codes "upper --side upper" ∷ codes "upper --side=" ∷ codes "upper --family 5" ∷ codes "upper --family="
+    ∷ codes "help" ∷ codes "-- --chain X" ∷ codes " x" ∷ codes "Upper" ∷ codes "check" ∷ []) ≡ true
 unfolding fffuu faults_in rows_in parts_in asked_by spelled_by clap_on_literals
 no_requests = refl

@@ -59,9 +59,7 @@ fn alone(mode: Mode, line: &Line<'_>) -> Option<Mode>
 pub fn mode(name: &str, line: &Line<'_>) -> Option<Mode>
     ensures { result ≡ mode_of name.now (line_parts line.now) }
 {
-    if name == "check" {
-        alone(Mode::Check, line)
-    } else if name == "upper" {
+    if name == "upper" {
         alone(Mode::Upper, line)
     } else {
         None
