@@ -14,7 +14,7 @@ pub mod BaseLemmas
 pub mod KindLemmas
 pub mod SayingLemmas
 pub mod PortListLemmas
-pub mod RowLemmas
+pub mod LineLemmas
 pub mod ProtocolOnce
 pub mod SayingOnce
 pub mod LiteralOnce

@@ -135,3 +135,9 @@ joined_set a b s is = subst (IsSet 16) (sym is) (inr (inl refl), where_ascends (
 -- the set of all ranges
 pub set_whole : (s rs : List Range) (i : ℕ) → length rs ≤ i → ((n : ℕ) → has s n ≡ has (take i rs) n) → IsSet 16 s → s ≡ ranges_where (has rs) (2 ^ 16)
 set_whole s rs i all numbers set = spelled 16 s (has rs) set (λ n small. numbers n ∙ ap (λ (xs : List Range). has xs n) (take_all i rs all))
+
+-- a range is a set
+pub range_whole : (s : List Range) (r : Range) → s ≡ r ∷ [] → r.lo ≤ r.hi → r.hi < 2 ^ 16 → s ≡ ranges_where (has (r ∷ [])) (2 ^ 16)
+range_whole s r is ordered small =
+    let set : IsSet 16 (r ∷ []) = (inr (inl refl), (omega arith, ordered, omega (arith, small), tt)) in
+    is ∙ spelled 16 (r ∷ []) (has (r ∷ [])) set (λ n below. refl)

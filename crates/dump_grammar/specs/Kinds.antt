@@ -4,6 +4,7 @@ use Rattle.std.specs.List.{find}
 use Rattle.std.specs.Str.{bytes_eq}
 use Rattle.interval_set.specs.declared.set.Range.{Range}
 use Rattle.match_expr.specs.declared.expr.Expr.{Expr}
+use Rattle.name_set.specs.declared.pattern.Pattern.{Pattern}
 use Rattle.primitives.specs.declared.prim.Prim_.{Prim_}
 use Rattle.dump_grammar.specs.declared.kinds.Kind.{Kind}
 use Rattle.dump_grammar.specs.declared.kinds.Side.{Side}
@@ -75,6 +76,11 @@ module _ {W : ℕ} where
   abbrev pub addresses_at : Side → List Range → Prim_ W
   addresses_at Side.Source set = Prim_.Src set
   addresses_at Side.Destination set = Prim_.Dst set
+
+  -- the input interface has a name of the pattern, or the output interface
+  abbrev pub names_at : Side → Pattern → Prim_ W
+  names_at Side.Source pattern = Prim_.InName pattern
+  names_at Side.Destination pattern = Prim_.OutName pattern
 
   -- the protocol of this number, and a source or a destination port in one of the ranges
   abbrev pub ports_at : Side → ℕ → List Range → Expr (Prim_ W)

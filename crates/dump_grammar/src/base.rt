@@ -7,7 +7,7 @@ ghost use Rattle.dump_grammar.specs.Literals.{IsBaseLiteral};
 
 use crate::addresses::net_literal;
 use crate::kinds::Side;
-use crate::literals::{input_literal, output_literal, protocol_literal};
+use crate::literals::{name_literal, protocol_literal};
 use crate::pieces::{first_word, is_same};
 use crate::unknown::option_text;
 use addr_text::Family;
@@ -55,10 +55,10 @@ pub(crate) fn base_literal<F: Family<W>, const W: u32>(
         return net_literal::<F, W>(alloc, Side::Destination, negated, option, arguments, text);
     }
     if is_same(option, b"-i") {
-        return input_literal(alloc, text, negated);
+        return name_literal(alloc, Side::Source, negated, text);
     }
     if is_same(option, b"-o") {
-        return output_literal(alloc, text, negated);
+        return name_literal(alloc, Side::Destination, negated, text);
     }
     if is_same(option, b"-p") {
         return protocol_literal(alloc, negated, option, arguments, text);

@@ -1,10 +1,12 @@
 ghost use Rattle.std.specs.Prelude.{◌≡◌};
 ghost use Rattle.dump_grammar.specs.Kinds.{kind_of, module_name, option_name, transport_name, transport_number};
 
-/// Which end of a packet's way is asked.
+/// An end of a packet's way.
 #[derive(Clone, Copy)]
 pub(crate) enum Side {
+    /// Where it comes from: its source, its source port and its input interface.
     Source,
+    /// Where it goes to: its destination, its destination port and its output interface.
     Destination,
 }
 

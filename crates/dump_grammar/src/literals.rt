@@ -3,9 +3,11 @@ ghost use Rattle.fw_rule.specs.declared.rule.Lit.{Lit as ALit};
 ghost use Rattle.primitives.specs.declared.prim.Prim_.{Prim_ as APrim};
 ghost use Rattle.primitives.specs.Words.{SpellsProto};
 ghost use Rattle.dump_grammar.specs.Groups.{Group as AGroup};
+ghost use Rattle.dump_grammar.specs.Kinds.{names_at};
 ghost use Rattle.dump_grammar.specs.Lines.{texts, words_of};
 ghost use Rattle.dump_grammar.specs.Literals.{IsEveryProtocol, IsNameLiteral, IsPattern, IsProtocolLiteral, text_of};
 
+use crate::kinds::Side;
 use crate::patterns::pattern;
 use crate::pieces::is_same;
 use crate::unknown::option_text;
@@ -26,37 +28,29 @@ fn short_pattern(alloc: Global, text: &[u8]) -> Result<Option<Pattern>, AllocErr
     Ok(Some(pattern(alloc, text)?))
 }
 
-/// The literal of `-i` with this argument, which has 1 to 255 bytes; None exactly where it hasn't.
-pub(crate) fn input_literal<const W: u32>(
-    alloc: Global,
-    text: &[u8],
-    negated: bool,
-) -> Result<Option<Lit<Prim_<W>>>, AllocError>
-    ensures some { IfOk result (λ o. IfSome o (λ l. IsNameLiteral APrim.InName text.now negated l)) }
-    ensures none { IfOk result (λ o. IfNone o ((l : ALit (APrim W)) → IsNameLiteral APrim.InName text.now negated l → ⊥)) }
+fn name_test<const W: u32>(side: Side, pattern: Pattern) -> Prim_<W>
+    ensures { result ≡ names_at side pattern }
 {
-    match short_pattern(alloc, text)? {
-        Some(pattern) => Ok(Some(Lit::Known {
-            neg: negated,
-            expr: Expr::Prim(Prim_::InName(pattern)),
-        })),
-        None => Ok(None),
+    match side {
+        Side::Source => Prim_::InName(pattern),
+        Side::Destination => Prim_::OutName(pattern),
     }
 }
 
-/// The literal of `-o` with this argument, which has 1 to 255 bytes; None exactly where it hasn't.
-pub(crate) fn output_literal<const W: u32>(
+/// The literal of `-i` or `-o` with this argument, which has 1 to 255 bytes; None exactly where it hasn't.
+pub(crate) fn name_literal<const W: u32>(
     alloc: Global,
-    text: &[u8],
+    side: Side,
     negated: bool,
+    text: &[u8],
 ) -> Result<Option<Lit<Prim_<W>>>, AllocError>
-    ensures some { IfOk result (λ o. IfSome o (λ l. IsNameLiteral APrim.OutName text.now negated l)) }
-    ensures none { IfOk result (λ o. IfNone o ((l : ALit (APrim W)) → IsNameLiteral APrim.OutName text.now negated l → ⊥)) }
+    ensures some { IfOk result (λ o. IfSome o (λ l. IsNameLiteral (names_at side) text.now negated l)) }
+    ensures none { IfOk result (λ o. IfNone o ((l : ALit (APrim W)) → IsNameLiteral (names_at side) text.now negated l → ⊥)) }
 {
     match short_pattern(alloc, text)? {
         Some(pattern) => Ok(Some(Lit::Known {
             neg: negated,
-            expr: Expr::Prim(Prim_::OutName(pattern)),
+            expr: Expr::Prim(name_test(side, pattern)),
         })),
         None => Ok(None),
     }

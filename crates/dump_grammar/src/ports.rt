@@ -1,4 +1,4 @@
-ghost use Rattle.std.specs.Prelude.{◌≡◌, ◌≤◌, ◌<◌, ◌^◌, ◌==◌, ℕ, List as Seq, All, IfSome, IfNone, IfOk, decimal, if◌then◌else◌};
+ghost use Rattle.std.specs.Prelude.{◌≡◌, ◌≤◌, ◌<◌, ◌^◌, ◌==◌, ◌∷◌, [], ℕ, List as Seq, All, IfSome, IfNone, IfOk, decimal, if◌then◌else◌};
 ghost use Rattle.std.specs.List.{list_any};
 ghost use Rattle.interval_set.specs.declared.set.Range.{Range as ARange};
 ghost use Rattle.interval_set.specs.Numbers.{has};
@@ -60,6 +60,9 @@ fn part_weight(text: &[u8]) -> u32
     if has_colon(text) { 2 } else { 1 }
 }
 
+/// How much the parts of a list of ports count together at most.
+const MOST_PORTS: u32 = 15;
+
 /// Reads ports and ranges of ports with commas between them, where a range counts two and all count 15 at most; None
 /// exactly where the text is no such list.
 pub(crate) fn port_list(alloc: Global, text: &[u8]) -> Result<Option<Vec<Range>>, AllocError>
@@ -74,7 +77,7 @@ pub(crate) fn port_list(alloc: Global, text: &[u8]) -> Result<Option<Vec<Range>>
             return Ok(None);
         };
         count += part_weight(part);
-        if count > 15 {
+        if count > MOST_PORTS {
             return Ok(None);
         }
         found.push(range)?;
@@ -83,11 +86,20 @@ pub(crate) fn port_list(alloc: Global, text: &[u8]) -> Result<Option<Vec<Range>>
     let Some(last) = port_range(rest) else {
         return Ok(None);
     };
-    if count + part_weight(rest) > 15 {
+    if count + part_weight(rest) > MOST_PORTS {
         return Ok(None);
     }
     found.push(last)?;
     Ok(Some(found))
+}
+
+/// The set of the ports in this range.
+pub(crate) fn range_set(alloc: Global, range: Range) -> Result<Set<16>, AllocError>
+    requires ordered { range.lo ≤ range.hi }
+    requires ports { range.hi < 2 ^ 16 }
+    ensures { IfOk result (λ s. s ≡ ranges_where (has (range ∷ [])) (2 ^ 16)) }
+{
+    Set::range(alloc, range.lo, range.hi)
 }
 
 /// The set of the ports in these ranges.

@@ -10,9 +10,9 @@ ghost use Rattle.dump_grammar.specs.declared.rule.RuleLine.{RuleLine as ARule};
 
 use crate::division::groups;
 use crate::heads::rule_head;
+use crate::line_literals::{literals, options_differ};
 use crate::names::is_built_in;
 use crate::pieces::{first_word, is_bare};
-use crate::rows::{literals, options_differ};
 use crate::rule::RuleLine;
 use crate::targets::jump;
 use addr_text::Family;

@@ -17,7 +17,7 @@ use crate::addresses::address_test;
 use crate::base::only;
 use crate::kinds::{Kind, Side, Transport};
 use crate::pieces::first_word;
-use crate::ports::{port_list, port_range, port_set};
+use crate::ports::{port_list, port_range, port_set, range_set};
 use crate::states::state_list;
 use addr_text::{Family, read_range};
 use dump_token::Token;
@@ -69,7 +69,7 @@ fn port<const W: u32>(
     let Some(range) = port_range(text) else {
         return Ok(None);
     };
-    let set = port_set(alloc, &[range])?;
+    let set = range_set(alloc, range)?;
     Ok(Some(port_test(side, transport.number(), set)))
 }
 

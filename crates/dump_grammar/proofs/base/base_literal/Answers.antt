@@ -16,12 +16,12 @@ returns-then-is_same-3-clause-none g c =
 
 pub returns-then-is_same-4-clause-none : goal.returns-then-is_same-4-clause-none
 returns-then-is_same-4-clause-none g c =
-    ok_none c.input_literal.result _ _ c.input_literal.ensures.none
+    ok_none c.name_literal.result _ _ c.name_literal.ensures.none
     (no_input {W = g.row.W} g.F.Family.Reads c.args.negated c.args.option.now (texts (words_of c.args.arguments.now)) c.in-Some.text.now (c.is_same-4.ensures.0 (search rules)) c.in-Some.ensures.some)
 
 pub returns-then-is_same-5-clause-none : goal.returns-then-is_same-5-clause-none
 returns-then-is_same-5-clause-none g c =
-    ok_none c.output_literal.result _ _ c.output_literal.ensures.none
+    ok_none c.name_literal-then-is_same-5.result _ _ c.name_literal-then-is_same-5.ensures.none
     (no_output {W = g.row.W} g.F.Family.Reads c.args.negated c.args.option.now (texts (words_of c.args.arguments.now)) c.in-Some.text.now (c.is_same-5.ensures.0 (search rules)) c.in-Some.ensures.some)
 
 pub returns-then-is_same-6-clause-none : goal.returns-then-is_same-6-clause-none

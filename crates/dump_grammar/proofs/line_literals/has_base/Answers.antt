@@ -1,5 +1,5 @@
-use Rattle.dump_grammar.proofs.RowLemmas.{base_passed}
-use Rattle.dump_grammar.proofs.rows.has_base.Goals as goal
+use Rattle.dump_grammar.proofs.LineLemmas.{base_passed}
+use Rattle.dump_grammar.proofs.line_literals.has_base.Goals as goal
 
 pub loop-group-preserved : goal.loop-group-preserved
 loop-group-preserved c =

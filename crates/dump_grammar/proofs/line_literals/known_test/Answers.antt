@@ -3,7 +3,7 @@ use Rattle.dump_grammar.specs.GroupWords.{module_of}
 use Rattle.dump_grammar.specs.Lines.{texts, words_of}
 use Rattle.dump_grammar.proofs.GroupLemmas.{ok_none, ok_some}
 use Rattle.dump_grammar.proofs.SayingLemmas.{known_none, known_some, unknown_none}
-use Rattle.dump_grammar.proofs.rows.known_test.Goals as goal
+use Rattle.dump_grammar.proofs.line_literals.known_test.Goals as goal
 
 pub returns-in_default-known_kind-clause-none : goal.returns-in_default-known_kind-clause-none
 returns-in_default-known_kind-clause-none g c =

@@ -1,7 +1,7 @@
 use Rattle.std.proofs.Common.{drop}
 use Rattle.dump_grammar.specs.GroupWords.{groups_of}
-use Rattle.dump_grammar.proofs.RowLemmas.{LiteralsSoFar}
-use Rattle.dump_grammar.proofs.rows.literals.Given as goal
+use Rattle.dump_grammar.proofs.LineLemmas.{LiteralsSoFar}
+use Rattle.dump_grammar.proofs.line_literals.literals.Given as goal
 
 abbrev pub ghost-group_literal : goal.ghost-group_literal
 ghost-group_literal g a = g.all

@@ -1,8 +1,8 @@
 use Rattle.std.proofs.Common.{ap}
 use Rattle.dump_grammar.specs.GroupWords.{group_of, groups_of}
 use Rattle.dump_grammar.specs.Lines.{texts, words_of}
-use Rattle.dump_grammar.proofs.RowLemmas.{base_gives, base_gives_none}
-use Rattle.dump_grammar.proofs.rows.group_literal.Goals as goal
+use Rattle.dump_grammar.proofs.LineLemmas.{base_gives, base_gives_none}
+use Rattle.dump_grammar.proofs.line_literals.group_literal.Goals as goal
 
 pub returns-in-Some-clause-some : goal.returns-in-Some-clause-some
 returns-in-Some-clause-some g c =

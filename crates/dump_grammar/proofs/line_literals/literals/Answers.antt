@@ -1,8 +1,8 @@
 use Rattle.std.proofs.Common.{◌+◌, List, drop, subst}
 use Rattle.dump_grammar.specs.GroupWords.{group_of, groups_of}
 use Rattle.dump_grammar.specs.Groups.{Group}
-use Rattle.dump_grammar.proofs.RowLemmas.{GivesLiteral, GivesNone, groups_after, groups_end, groups_here, literals_begin, literals_passed, literals_refused, literals_whole}
-use Rattle.dump_grammar.proofs.rows.literals.Goals as goal
+use Rattle.dump_grammar.proofs.LineLemmas.{GivesLiteral, GivesNone, groups_after, groups_end, groups_here, literals_begin, literals_passed, literals_refused, literals_whole}
+use Rattle.dump_grammar.proofs.line_literals.literals.Goals as goal
 
 pub loop-i-init : goal.loop-i-init
 loop-i-init g c = literals_begin g.F.Family.Reads g.all g.all (groups_of c.args.groups.now) c.new-found.result.items c.requires.1.1.1.1 c.new-found.ensures.items
