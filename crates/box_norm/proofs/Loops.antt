@@ -5,6 +5,7 @@ use Rattle.match_expr.specs.declared.expr.Expr.{Expr}
 use Rattle.primitives.specs.declared.prim.Prim_.{Prim_}
 use Rattle.box_norm.specs.declared.cube.Cube.{Cube}
 use Rattle.box_norm.specs.declared.cube.CubeFault.{CubeFault}
+use Rattle.box_norm.specs.Cubes.{each_piece}
 use Rattle.box_norm.specs.Cuts.{Work, Cuts, keep_all, omit_all, Answers, cuts_by}
 
 -- what is left to do ends as the whole does
@@ -107,3 +108,10 @@ module _ (W : ℕ) (parts : List (Expr (Prim_ W))) (i : ℕ) (x : Expr (Prim_ W)
 
     pub omits_full : (more : List (Cube W)) → more ≡ ((cuts_by {W = W} x).omit lent).list → 16384 < length (out ++ more) → 16384 < whole.longest
     omits_full more a b = omits_over (cuts_by {W = W} x) (map (cuts_by {W = W}) (drop (i + 1) parts)) kept out more whole at_part (rw same at a) b
+
+-- the turn at one cube
+pub pieces_turn : {W : ℕ} (f : Cube W → List (Cube W)) (list : List (Cube W)) (i : ℕ) (x : Cube W) (out : List (Cube W)) → i < length list → x ≡ get_or list i x →
+    out ++ each_piece f (drop i list) ≡ each_piece f list → (out ++ f x) ++ each_piece f (drop (i + 1) list) ≡ each_piece f list
+pieces_turn f list i x out h is g =
+    let opened : drop i list ≡ x ∷ drop (i + 1) list = rw add-one (drop-cons list i x h ∙ ap (λ y. y ∷ drop (suc i) list) (sym is)) in
+    append_assoc out (f x) (each_piece f (drop (i + 1) list)) ∙ ap (λ z. out ++ each_piece f z) (sym opened) ∙ g

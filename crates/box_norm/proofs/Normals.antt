@@ -10,7 +10,7 @@ use Rattle.primitives.specs.Holds.{holds_of, IsValid}
 use Rattle.box_norm.specs.declared.cube.Cube.{Cube}
 use Rattle.box_norm.specs.declared.cube.CubeFault.{CubeFault}
 use Rattle.box_norm.specs.declared.cube.SimpleRule.{SimpleRule}
-use Rattle.box_norm.specs.Cuts.{Answers, cuts_by}
+use Rattle.box_norm.specs.Cuts.{cuts_by}
 use Rattle.box_norm.specs.Normal.{NormalAnswers, boxes_of, first_of, normal_of, whole_of, with_verdict}
 use Rattle.box_norm.proofs.NormalLaws.{normal_first}
 
@@ -68,11 +68,16 @@ module _ {W : ℕ} (full : Bool) (out : List (SimpleRule W)) (rule : FlatRule (P
   pub normals_on : full ≡ true → Normals true out rest rules
   normals_on f = normals_full (g.many f)
 
--- from what `normal` answers to what its list answers
+-- from what `normal` answers to a fact of its list
+pub answers_of : (W : ℕ) (rules : List (FlatRule (Prim_ W))) (r : Result (List (SimpleRule W)) CubeFault) (Q : List (SimpleRule W) → Type 0) →
+    ((l : List (SimpleRule W)) → l ≡ normal_of rules → Q l) → NormalAnswers rules r → IfOk r Q
+answers_of W rules (Ok l) Q f a = f l a.0
+answers_of W rules (Err e) Q f a = tt
+
 pub answers_first : (W : ℕ) (rules : List (FlatRule (Prim_ W))) (r : Result (List (SimpleRule W)) CubeFault) → NormalAnswers rules r →
     IfOk r (λ l. (p : Packet) → IsValid W p → first_of l p ≡ first_match (λ x. holds_of x p) rules)
-answers_first W rules (Ok l) a = λ p v. ap (λ z. first_of z p) a.0 ∙ normal_first W p v rules
-answers_first W rules (Err e) a = tt
+answers_first W rules r a = answers_of W rules r (λ l. (p : Packet) → IsValid W p → first_of l p ≡ first_match (λ x. holds_of x p) rules)
+    (λ l is p v. ap (λ z. first_of z p) is ∙ normal_first W p v rules) a
 
 -- the turn at one rule of the loop
 module _ (W : ℕ) (rules : List (FlatRule (Prim_ W))) (i : ℕ) (x : FlatRule (Prim_ W)) (full : Bool) (out : List (SimpleRule W)) (lent cubes : List (Cube W))

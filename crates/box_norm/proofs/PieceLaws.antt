@@ -35,7 +35,7 @@ no_bit : (b i : ℕ) → (b == 0) ≡ true → has_bit b i ≡ false
 no_bit b i h = let e : b ≡ 0 = grind (arith, nat_tests, h) in rw e (let z = bit_at-zero i in grind (arith, nat_tests, z))
 
 -- no packet is in an empty cube
-none_holds : {W : ℕ} (c : Cube W) (p : Packet) → is_none c ≡ true → holds_cube c p ≡ false
+pub none_holds : {W : ℕ} (c : Cube W) (p : Packet) → is_none c ≡ true → holds_cube c p ≡ false
 none_holds c p h =
     let a = no_name_has c.in_name p.in_name in
     let b = no_name_has c.out_name p.out_name in
@@ -59,32 +59,32 @@ kept_by false c p h = or_false (holds_cube c p)
 pub kept_holds : {W : ℕ} (c : Cube W) (p : Packet) → any_holds (kept c) p ≡ holds_cube c p
 kept_holds c p = kept_by (is_none c) c p refl
 
-and_true : (b : Bool) → (b && true) ≡ b
+pub and_true : (b : Bool) → (b && true) ≡ b
 and_true true = refl
 and_true false = refl
 
-and_false : (b : Bool) → (b && false) ≡ false
+pub and_false : (b : Bool) → (b && false) ≡ false
 and_false true = refl
 and_false false = refl
 
 -- a factor more, in one place of a product
-here : (x y t x' : Bool) → x' ≡ (x && t) → (x' && y) ≡ ((x && y) && t)
+pub here : (x y t x' : Bool) → x' ≡ (x && t) → (x' && y) ≡ ((x && y) && t)
 here x y t x' e = rw e (elim x as (λ b. ((b && t) && y) ≡ ((b && y) && t)) [ true ↦ elim t as (λ b. (b && y) ≡ (y && b)) [ true ↦ elim y as (λ b. b ≡ (b && true)) [ true ↦ refl | false ↦ refl ] | false ↦ elim y as (λ b. false ≡ (b && false)) [ true ↦ refl | false ↦ refl ] ] | false ↦ refl ])
 
-under : (x y t y' : Bool) → y' ≡ (y && t) → (x && y') ≡ ((x && y) && t)
+pub under : (x y t y' : Bool) → y' ≡ (y && t) → (x && y') ≡ ((x && y) && t)
 under true y t y' e = e
 under false y t y' e = refl
 
-two : (x y s t x' y' : Bool) → x' ≡ (x && s) → y' ≡ (y && t) → (x' && y') ≡ ((x && y) && (s && t))
+pub two : (x y s t x' y' : Bool) → x' ≡ (x && s) → y' ≡ (y && t) → (x' && y') ≡ ((x && y) && (s && t))
 two x y s t x' y' e f = grind (arith, e, f)
 
 parted : (h s t a b : Bool) → a ≡ (h && not s) → b ≡ (h && (s && not t)) → (a || b) ≡ (h && not (s && t))
 parted h s t a b e f = grind (arith, e, f)
 
-and_within : (w : ℕ) (a b : List Range) (n : ℕ) → n < 2 ^ w → has (set_and w a b) n ≡ (has a n && has b n)
+pub and_within : (w : ℕ) (a b : List Range) (n : ℕ) → n < 2 ^ w → has (set_and w a b) n ≡ (has a n && has b n)
 and_within w a b n h = let e = and_has w a b n in grind (arith, nat_tests, e, h)
 
-minus_within : (w : ℕ) (a b : List Range) (n : ℕ) → n < 2 ^ w → has (set_minus w a b) n ≡ (has a n && not (has b n))
+pub minus_within : (w : ℕ) (a b : List Range) (n : ℕ) → n < 2 ^ w → has (set_minus w a b) n ≡ (has a n && not (has b n))
 minus_within w a b n h = let e = minus_has w a b n in grind (arith, nat_tests, e, h)
 
 single_has : (m n : ℕ) → has (single m) n ≡ (n == m)
@@ -96,7 +96,7 @@ and_single a m n h = and_within 8 a (single m) n h ∙ ap (λ b. has a n && b) (
 minus_single : (a : List Range) (m n : ℕ) → n < 256 → has (set_minus 8 a (single m)) n ≡ (has a n && not (n == m))
 minus_single a m n h = minus_within 8 a (single m) n h ∙ ap (λ b. has a n && not b) (single_has m n)
 
-bits_and : (a b i : ℕ) → has_bit (bit_and a b) i ≡ (has_bit a i && has_bit b i)
+pub bits_and : (a b i : ℕ) → has_bit (bit_and a b) i ≡ (has_bit a i && has_bit b i)
 bits_and a b i = let e = bit_at_and a b i in let f = bit_at-lt a i in let g = bit_at-lt b i in grind (arith, nat_tests, e, f, g)
 
 xored : (a b m x : ℕ) → a < 2 → b < 2 → m ≡ min a b → x ≡ (a + m) % 2 → (x == 1) ≡ ((a == 1) && not (b == 1))
@@ -106,105 +106,136 @@ xored (suc zero) (suc zero) m x h k e f = let g : m ≡ 1 = omega (arith, e) in 
 xored (suc zero) (suc (suc b)) m x h k e f = absurd (omega arith)
 xored (suc (suc a)) b m x h k e f = absurd (omega arith)
 
-bits_less : (a b i : ℕ) → has_bit (bit_xor a (bit_and a b)) i ≡ (has_bit a i && not (has_bit b i))
+pub bits_less : (a b i : ℕ) → has_bit (bit_xor a (bit_and a b)) i ≡ (has_bit a i && not (has_bit b i))
 bits_less a b i =
     let e = bit_at_and a b i in let x = bit_at_xor a (bit_and a b) i in let f = bit_at-lt a i in let g = bit_at-lt b i in
     xored (bit_at a i) (bit_at b i) (bit_at (bit_and a b) i) (bit_at (bit_xor a (bit_and a b)) i) f g e x
 
 -- a cube without one dimension, from the front
-abbrev past_in : {W : ℕ} → Cube W → Packet → Bool
+abbrev pub past_in : {W : ℕ} → Cube W → Packet → Bool
 past_in c p = has_name c.out_name p.out_name && (has c.src p.src && (has c.dst p.dst && (has c.proto p.proto && (has c.sport p.sport && (has c.dport p.dport && (has_bit c.flags p.flags && has_bit c.state p.state))))))
 
-abbrev past_out : {W : ℕ} → Cube W → Packet → Bool
+abbrev pub past_out : {W : ℕ} → Cube W → Packet → Bool
 past_out c p = has c.src p.src && (has c.dst p.dst && (has c.proto p.proto && (has c.sport p.sport && (has c.dport p.dport && (has_bit c.flags p.flags && has_bit c.state p.state)))))
 
-in_holds : {W : ℕ} (c : Cube W) (p : Packet) (o : Option NameSet) → any_holds (kept_in c o) p ≡ (has_name_some o p.in_name && past_in c p)
+pub in_holds : {W : ℕ} (c : Cube W) (p : Packet) (o : Option NameSet) → any_holds (kept_in c o) p ≡ (has_name_some o p.in_name && past_in c p)
 in_holds c p None = refl
 in_holds c p (Some s) = kept_holds (record c { in_name = s }) p
 
-out_holds : {W : ℕ} (c : Cube W) (p : Packet) (o : Option NameSet) → any_holds (kept_out c o) p ≡ (has_name c.in_name p.in_name && (has_name_some o p.out_name && past_out c p))
+pub out_holds : {W : ℕ} (c : Cube W) (p : Packet) (o : Option NameSet) → any_holds (kept_out c o) p ≡ (has_name c.in_name p.in_name && (has_name_some o p.out_name && past_out c p))
 out_holds c p None = sym (and_false (has_name c.in_name p.in_name))
 out_holds c p (Some s) = kept_holds (record c { out_name = s }) p
 
 -- the factors, and the products from each on
-abbrev factor1 : {W : ℕ} → Cube W → Packet → Bool
+abbrev pub factor1 : {W : ℕ} → Cube W → Packet → Bool
 factor1 c p = has_name c.in_name p.in_name
 
-abbrev factor2 : {W : ℕ} → Cube W → Packet → Bool
+abbrev pub factor2 : {W : ℕ} → Cube W → Packet → Bool
 factor2 c p = has_name c.out_name p.out_name
 
-abbrev factor3 : {W : ℕ} → Cube W → Packet → Bool
+abbrev pub factor3 : {W : ℕ} → Cube W → Packet → Bool
 factor3 c p = has c.src p.src
 
-abbrev factor4 : {W : ℕ} → Cube W → Packet → Bool
+abbrev pub factor4 : {W : ℕ} → Cube W → Packet → Bool
 factor4 c p = has c.dst p.dst
 
-abbrev factor5 : {W : ℕ} → Cube W → Packet → Bool
+abbrev pub factor5 : {W : ℕ} → Cube W → Packet → Bool
 factor5 c p = has c.proto p.proto
 
-abbrev factor6 : {W : ℕ} → Cube W → Packet → Bool
+abbrev pub factor6 : {W : ℕ} → Cube W → Packet → Bool
 factor6 c p = has c.sport p.sport
 
-abbrev factor7 : {W : ℕ} → Cube W → Packet → Bool
+abbrev pub factor7 : {W : ℕ} → Cube W → Packet → Bool
 factor7 c p = has c.dport p.dport
 
-abbrev factor8 : {W : ℕ} → Cube W → Packet → Bool
+abbrev pub factor8 : {W : ℕ} → Cube W → Packet → Bool
 factor8 c p = has_bit c.flags p.flags
 
-abbrev factor9 : {W : ℕ} → Cube W → Packet → Bool
+abbrev pub factor9 : {W : ℕ} → Cube W → Packet → Bool
 factor9 c p = has_bit c.state p.state
 
-abbrev from9 : {W : ℕ} → Cube W → Packet → Bool
+abbrev pub from9 : {W : ℕ} → Cube W → Packet → Bool
 from9 c p = factor9 c p
 
-abbrev from8 : {W : ℕ} → Cube W → Packet → Bool
+abbrev pub from8 : {W : ℕ} → Cube W → Packet → Bool
 from8 c p = factor8 c p && from9 c p
 
-abbrev from7 : {W : ℕ} → Cube W → Packet → Bool
+abbrev pub from7 : {W : ℕ} → Cube W → Packet → Bool
 from7 c p = factor7 c p && from8 c p
 
-abbrev from6 : {W : ℕ} → Cube W → Packet → Bool
+abbrev pub from6 : {W : ℕ} → Cube W → Packet → Bool
 from6 c p = factor6 c p && from7 c p
 
-abbrev from5 : {W : ℕ} → Cube W → Packet → Bool
+abbrev pub from5 : {W : ℕ} → Cube W → Packet → Bool
 from5 c p = factor5 c p && from6 c p
 
-abbrev from4 : {W : ℕ} → Cube W → Packet → Bool
+abbrev pub from4 : {W : ℕ} → Cube W → Packet → Bool
 from4 c p = factor4 c p && from5 c p
 
-abbrev from3 : {W : ℕ} → Cube W → Packet → Bool
+abbrev pub from3 : {W : ℕ} → Cube W → Packet → Bool
 from3 c p = factor3 c p && from4 c p
 
-abbrev from2 : {W : ℕ} → Cube W → Packet → Bool
+abbrev pub from2 : {W : ℕ} → Cube W → Packet → Bool
 from2 c p = factor2 c p && from3 c p
 
 -- one dimension changed
 module _ {W : ℕ} (c : Cube W) (p : Packet) (t : Bool) where
+  pub at_in_name : (s : NameSet) → has_name s p.in_name ≡ (has_name c.in_name p.in_name && t) → holds_cube (record c { in_name = s }) p ≡ (holds_cube c p && t)
+  at_in_name s e = here (factor1 c p) (from2 c p) t _ e
+
+  pub at_out_name : (s : NameSet) → has_name s p.out_name ≡ (has_name c.out_name p.out_name && t) → holds_cube (record c { out_name = s }) p ≡ (holds_cube c p && t)
+  at_out_name s e = under (factor1 c p) (from2 c p) t _ (here (factor2 c p) (from3 c p) t _ e)
+
+  pub at_src : (s : List Range) → has s p.src ≡ (has c.src p.src && t) → holds_cube (record c { src = s }) p ≡ (holds_cube c p && t)
+  at_src s e = under (factor1 c p) (from2 c p) t _ (under (factor2 c p) (from3 c p) t _ (here (factor3 c p) (from4 c p) t _ e))
+
+  pub at_dst : (s : List Range) → has s p.dst ≡ (has c.dst p.dst && t) → holds_cube (record c { dst = s }) p ≡ (holds_cube c p && t)
+  at_dst s e = under (factor1 c p) (from2 c p) t _ (under (factor2 c p) (from3 c p) t _ (under (factor3 c p) (from4 c p) t _ (here (factor4 c p) (from5 c p) t _ e)))
+
+  pub at_proto : (s : List Range) → has s p.proto ≡ (has c.proto p.proto && t) → holds_cube (record c { proto = s }) p ≡ (holds_cube c p && t)
+  at_proto s e = under (factor1 c p) (from2 c p) t _ (under (factor2 c p) (from3 c p) t _ (under (factor3 c p) (from4 c p) t _ (under (factor4 c p) (from5 c p) t _ (here (factor5 c p) (from6 c p) t _ e))))
+
+  pub at_sport : (s : List Range) → has s p.sport ≡ (has c.sport p.sport && t) → holds_cube (record c { sport = s }) p ≡ (holds_cube c p && t)
+  at_sport s e = under (factor1 c p) (from2 c p) t _ (under (factor2 c p) (from3 c p) t _ (under (factor3 c p) (from4 c p) t _ (under (factor4 c p) (from5 c p) t _ (under (factor5 c p) (from6 c p) t _ (here (factor6 c p) (from7 c p) t _ e)))))
+
+  pub at_dport : (s : List Range) → has s p.dport ≡ (has c.dport p.dport && t) → holds_cube (record c { dport = s }) p ≡ (holds_cube c p && t)
+  at_dport s e = under (factor1 c p) (from2 c p) t _ (under (factor2 c p) (from3 c p) t _ (under (factor3 c p) (from4 c p) t _ (under (factor4 c p) (from5 c p) t _ (under (factor5 c p) (from6 c p) t _ (under (factor6 c p) (from7 c p) t _ (here (factor7 c p) (from8 c p) t _ e))))))
+
+  pub at_flags : (s : ℕ) → has_bit s p.flags ≡ (has_bit c.flags p.flags && t) → holds_cube (record c { flags = s }) p ≡ (holds_cube c p && t)
+  at_flags s e = under (factor1 c p) (from2 c p) t _ (under (factor2 c p) (from3 c p) t _ (under (factor3 c p) (from4 c p) t _ (under (factor4 c p) (from5 c p) t _ (under (factor5 c p) (from6 c p) t _ (under (factor6 c p) (from7 c p) t _ (under (factor7 c p) (from8 c p) t _ (here (factor8 c p) (from9 c p) t _ e)))))))
+
+  pub at_state : (s : ℕ) → has_bit s p.state ≡ (has_bit c.state p.state && t) → holds_cube (record c { state = s }) p ≡ (holds_cube c p && t)
+  at_state s e = under (factor1 c p) (from2 c p) t _ (under (factor2 c p) (from3 c p) t _ (under (factor3 c p) (from4 c p) t _ (under (factor4 c p) (from5 c p) t _ (under (factor5 c p) (from6 c p) t _ (under (factor6 c p) (from7 c p) t _ (under (factor7 c p) (from8 c p) t _ (under (factor8 c p) (from9 c p) t _ e)))))))
+
+  -- and the cube kept, unless it is empty
   pub src_by : (s : List Range) → has s p.src ≡ (has c.src p.src && t) → any_holds (kept (record c { src = s })) p ≡ (holds_cube c p && t)
-  src_by s e = kept_holds (record c { src = s }) p ∙ (under (factor1 c p) (from2 c p) t _ (under (factor2 c p) (from3 c p) t _ (here (factor3 c p) (from4 c p) t _ e)))
+  src_by s e = kept_holds (record c { src = s }) p ∙ at_src s e
 
   pub dst_by : (s : List Range) → has s p.dst ≡ (has c.dst p.dst && t) → any_holds (kept (record c { dst = s })) p ≡ (holds_cube c p && t)
-  dst_by s e = kept_holds (record c { dst = s }) p ∙ (under (factor1 c p) (from2 c p) t _ (under (factor2 c p) (from3 c p) t _ (under (factor3 c p) (from4 c p) t _ (here (factor4 c p) (from5 c p) t _ e))))
+  dst_by s e = kept_holds (record c { dst = s }) p ∙ at_dst s e
 
   pub proto_by : (s : List Range) → has s p.proto ≡ (has c.proto p.proto && t) → any_holds (kept (record c { proto = s })) p ≡ (holds_cube c p && t)
-  proto_by s e = kept_holds (record c { proto = s }) p ∙ (under (factor1 c p) (from2 c p) t _ (under (factor2 c p) (from3 c p) t _ (under (factor3 c p) (from4 c p) t _ (under (factor4 c p) (from5 c p) t _ (here (factor5 c p) (from6 c p) t _ e)))))
+  proto_by s e = kept_holds (record c { proto = s }) p ∙ at_proto s e
 
   pub state_by : (s : ℕ) → has_bit s p.state ≡ (has_bit c.state p.state && t) → any_holds (kept (record c { state = s })) p ≡ (holds_cube c p && t)
-  state_by s e = kept_holds (record c { state = s }) p ∙ (under (factor1 c p) (from2 c p) t _ (under (factor2 c p) (from3 c p) t _ (under (factor3 c p) (from4 c p) t _ (under (factor4 c p) (from5 c p) t _ (under (factor5 c p) (from6 c p) t _ (under (factor6 c p) (from7 c p) t _ (under (factor7 c p) (from8 c p) t _ (under (factor8 c p) (from9 c p) t _ e))))))))
+  state_by s e = kept_holds (record c { state = s }) p ∙ at_state s e
+
+twice : (h r t x y : Bool) → x ≡ (h && r) → y ≡ (x && t) → y ≡ (h && (r && t))
+twice h r t x y e f = grind (arith, e, f)
 
 -- the protocol and one dimension more
 module _ {W : ℕ} (c : Cube W) (p : Packet) (r t : Bool) where
   pub sport_by : (q : List Range) (s : List Range) → has q p.proto ≡ (has c.proto p.proto && r) → has s p.sport ≡ (has c.sport p.sport && t) →
       any_holds (kept (record c { proto = q; sport = s })) p ≡ (holds_cube c p && (r && t))
-  sport_by q s e f = kept_holds (record c { proto = q; sport = s }) p ∙ (under (factor1 c p) (from2 c p) (r && t) _ (under (factor2 c p) (from3 c p) (r && t) _ (under (factor3 c p) (from4 c p) (r && t) _ (under (factor4 c p) (from5 c p) (r && t) _ (two (factor5 c p) (from6 c p) r t _ _ e (here (factor6 c p) (from7 c p) t _ f))))))
+  sport_by q s e f = kept_holds (record c { proto = q; sport = s }) p ∙ twice (holds_cube c p) r t (holds_cube (record c { proto = q }) p) _ (at_proto c p r q e) (at_sport (record c { proto = q }) p t s f)
 
   pub dport_by : (q : List Range) (s : List Range) → has q p.proto ≡ (has c.proto p.proto && r) → has s p.dport ≡ (has c.dport p.dport && t) →
       any_holds (kept (record c { proto = q; dport = s })) p ≡ (holds_cube c p && (r && t))
-  dport_by q s e f = kept_holds (record c { proto = q; dport = s }) p ∙ (under (factor1 c p) (from2 c p) (r && t) _ (under (factor2 c p) (from3 c p) (r && t) _ (under (factor3 c p) (from4 c p) (r && t) _ (under (factor4 c p) (from5 c p) (r && t) _ (two (factor5 c p) (from6 c p) r t _ _ e (under (factor6 c p) (from7 c p) t _ (here (factor7 c p) (from8 c p) t _ f)))))))
+  dport_by q s e f = kept_holds (record c { proto = q; dport = s }) p ∙ twice (holds_cube c p) r t (holds_cube (record c { proto = q }) p) _ (at_proto c p r q e) (at_dport (record c { proto = q }) p t s f)
 
   pub flags_by : (q : List Range) (s : ℕ) → has q p.proto ≡ (has c.proto p.proto && r) → has_bit s p.flags ≡ (has_bit c.flags p.flags && t) →
       any_holds (kept (record c { proto = q; flags = s })) p ≡ (holds_cube c p && (r && t))
-  flags_by q s e f = kept_holds (record c { proto = q; flags = s }) p ∙ (under (factor1 c p) (from2 c p) (r && t) _ (under (factor2 c p) (from3 c p) (r && t) _ (under (factor3 c p) (from4 c p) (r && t) _ (under (factor4 c p) (from5 c p) (r && t) _ (two (factor5 c p) (from6 c p) r t _ _ e (under (factor6 c p) (from7 c p) t _ (under (factor7 c p) (from8 c p) t _ (here (factor8 c p) (from9 c p) t _ f))))))))
+  flags_by q s e f = kept_holds (record c { proto = q; flags = s }) p ∙ twice (holds_cube c p) r t (holds_cube (record c { proto = q }) p) _ (at_proto c p r q e) (at_flags (record c { proto = q }) p t s f)
 
 flag_test : (mask comp f : ℕ) → f < 64 → has_bit (flags_where mask comp 64) f ≡ (bit_and f mask == comp)
 flag_test mask comp f h = let e = flags_has mask comp 64 f in grind (arith, nat_tests, e, h)

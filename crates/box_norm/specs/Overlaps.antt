@@ -1,5 +1,5 @@
 -- What two cubes have in common, and what one has without the other.
-use Rattle.std.specs.Prelude.{ℕ, List, [], ◌∷◌, ◌++◌, Bool, false, ◌||◌, Option, None, Some, if◌then◌else◌, option_to_list, bit_and, bit_xor}
+use Rattle.std.specs.Prelude.{ℕ, List, [], ◌∷◌, ◌++◌, Bool, false, Option, None, Some, if◌then◌else◌, option_to_list, bit_and, bit_xor}
 use Rattle.std.specs.List.{flat_map}
 use Rattle.interval_set.specs.Spelling.{set_and, set_minus}
 use Rattle.name_set.specs.declared.pattern.Pattern.{Pattern}

@@ -1,5 +1,5 @@
 -- Regular cubes, and where the patterns in their names come from.
-use Rattle.std.specs.Prelude.{ℕ, ◌-◌, ◌^◌, ◌<◌, ◌≤◌, ◌≡◌, ⊤, ◌⊎◌, List, [], ◌∷◌, ◌++◌, Bool, true, false, Contains}
+use Rattle.std.specs.Prelude.{ℕ, ◌-◌, ◌^◌, ◌<◌, ◌≤◌, ◌≡◌, ⊤, ◌⊎◌, List, [], ◌∷◌, ◌++◌, true, false, Contains}
 use Rattle.std.specs.List.{AllByRecursion}
 use Rattle.interval_set.specs.declared.set.Range.{Range}
 use Rattle.interval_set.specs.Numbers.{has}

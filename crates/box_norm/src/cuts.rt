@@ -5,6 +5,7 @@ ghost use Rattle.primitives.specs.Holds.{holds_of, IsValid};
 ghost use Rattle.box_norm.specs.Cubes.{any_holds};
 ghost use Rattle.box_norm.specs.Pieces.{cut_pieces, omit_pieces};
 ghost use Rattle.box_norm.specs.Cuts.{Answers, cuts_by, keep_all, omit_all, pieces_work};
+ghost use Rattle.box_norm.specs.Regular.{AreRegular};
 
 use crate::cube::{Cube, CubeFault};
 use crate::pieces::{push_cut, push_omit};
@@ -32,7 +33,8 @@ fn cut_each<const W: u32>(
     list: &[Cube<W>],
     x: &Prim_<W>,
 ) -> Result<List<Cube<W>>, CubeFault>
-    ensures { Answers (pieces_work (cut_pieces x.now) list.now) result }
+    ensures answers { Answers (pieces_work (cut_pieces x.now) list.now) result }
+    ensures regular { AreRegular list.now → IfOk result (λ l. AreRegular l) }
 {
     let mut out = Vec::new(alloc);
     for cube in list {
@@ -50,7 +52,8 @@ fn omit_each<const W: u32>(
     list: &[Cube<W>],
     x: &Prim_<W>,
 ) -> Result<List<Cube<W>>, CubeFault>
-    ensures { Answers (pieces_work (omit_pieces x.now) list.now) result }
+    ensures answers { Answers (pieces_work (omit_pieces x.now) list.now) result }
+    ensures regular { AreRegular list.now → IfOk result (λ l. AreRegular l) }
 {
     let mut out = Vec::new(alloc);
     for cube in list {
@@ -69,7 +72,8 @@ fn keep_parts<const W: u32>(
     list: &[Cube<W>],
     parts: &[Expr<Prim_<W>>],
 ) -> Result<List<Cube<W>>, CubeFault>
-    ensures { Answers (keep_all (map (cuts_by {W = W}) parts.now) list.now) result }
+    ensures answers { Answers (keep_all (map (cuts_by {W = W}) parts.now) list.now) result }
+    ensures regular { AreRegular list.now → IfOk result (λ l. AreRegular l) }
 {
     let mut kept = List::of(cubes_copy(alloc, list)?);
     for part in parts {
@@ -91,7 +95,8 @@ fn omit_parts<const W: u32>(
     list: &[Cube<W>],
     parts: &[Expr<Prim_<W>>],
 ) -> Result<List<Cube<W>>, CubeFault>
-    ensures { Answers (omit_all (map (cuts_by {W = W}) parts.now) list.now) result }
+    ensures answers { Answers (omit_all (map (cuts_by {W = W}) parts.now) list.now) result }
+    ensures regular { AreRegular list.now → IfOk result (λ l. AreRegular l) }
 {
     let mut kept = List::of(cubes_copy(alloc, list)?);
     let mut out = Vec::new(alloc);
@@ -120,7 +125,8 @@ pub fn cut_list<const W: u32>(
     list: &[Cube<W>],
     e: &Expr<Prim_<W>>,
 ) -> Result<List<Cube<W>>, CubeFault>
-    ensures { Answers ((cuts_by {W = W} e.now).keep list.now) result }
+    ensures answers { Answers ((cuts_by {W = W} e.now).keep list.now) result }
+    ensures regular { AreRegular list.now → IfOk result (λ l. AreRegular l) }
 {
     match e {
         Expr::All(parts) => keep_parts(alloc, list, parts.as_slice()),
@@ -136,7 +142,8 @@ pub fn omit_list<const W: u32>(
     list: &[Cube<W>],
     e: &Expr<Prim_<W>>,
 ) -> Result<List<Cube<W>>, CubeFault>
-    ensures { Answers ((cuts_by {W = W} e.now).omit list.now) result }
+    ensures answers { Answers ((cuts_by {W = W} e.now).omit list.now) result }
+    ensures regular { AreRegular list.now → IfOk result (λ l. AreRegular l) }
 {
     match e {
         Expr::All(parts) => omit_parts(alloc, list, parts.as_slice()),

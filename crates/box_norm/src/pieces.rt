@@ -1,6 +1,7 @@
 ghost use Rattle.std.specs.Prelude.{◌≡◌, ◌++◌, IfOk, OnOk};
 ghost use Rattle.box_norm.specs.Cubes.{is_none, has_no_range, kept};
 ghost use Rattle.box_norm.specs.Pieces.{single, flags_where, cut_pieces, omit_pieces};
+ghost use Rattle.box_norm.specs.Regular.{IsSound};
 
 use crate::cube::Cube;
 use interval_set::Set;
@@ -61,7 +62,7 @@ fn matching(mask: u8, comp: u8) -> u64
 }
 
 /// Appends the cube with these for the names of the input interface, unless it is empty.
-fn put_in_name<const W: u32>(
+pub fn put_in_name<const W: u32>(
     alloc: Global,
     out: &mut Vec<Cube<W>>,
     cube: &Cube<W>,
@@ -74,7 +75,7 @@ fn put_in_name<const W: u32>(
 }
 
 /// Appends the cube with these for the names of the output interface, unless it is empty.
-fn put_out_name<const W: u32>(
+pub fn put_out_name<const W: u32>(
     alloc: Global,
     out: &mut Vec<Cube<W>>,
     cube: &Cube<W>,
@@ -87,7 +88,7 @@ fn put_out_name<const W: u32>(
 }
 
 /// Appends the cube with these for the sources, unless it is empty.
-fn put_src<const W: u32>(
+pub fn put_src<const W: u32>(
     alloc: Global,
     out: &mut Vec<Cube<W>>,
     cube: &Cube<W>,
@@ -100,7 +101,7 @@ fn put_src<const W: u32>(
 }
 
 /// Appends the cube with these for the destinations, unless it is empty.
-fn put_dst<const W: u32>(
+pub fn put_dst<const W: u32>(
     alloc: Global,
     out: &mut Vec<Cube<W>>,
     cube: &Cube<W>,
@@ -113,7 +114,7 @@ fn put_dst<const W: u32>(
 }
 
 /// Appends the cube with these for the protocols, unless it is empty.
-fn put_proto<const W: u32>(
+pub fn put_proto<const W: u32>(
     alloc: Global,
     out: &mut Vec<Cube<W>>,
     cube: &Cube<W>,
@@ -126,7 +127,7 @@ fn put_proto<const W: u32>(
 }
 
 /// Appends the cube with these for the protocols and source ports, unless it is empty.
-fn put_sport<const W: u32>(
+pub fn put_sport<const W: u32>(
     alloc: Global,
     out: &mut Vec<Cube<W>>,
     cube: &Cube<W>,
@@ -140,7 +141,7 @@ fn put_sport<const W: u32>(
 }
 
 /// Appends the cube with these for the protocols and destination ports, unless it is empty.
-fn put_dport<const W: u32>(
+pub fn put_dport<const W: u32>(
     alloc: Global,
     out: &mut Vec<Cube<W>>,
     cube: &Cube<W>,
@@ -154,7 +155,7 @@ fn put_dport<const W: u32>(
 }
 
 /// Appends the cube with these for the protocols and flags, unless it is empty.
-fn put_flags<const W: u32>(
+pub fn put_flags<const W: u32>(
     alloc: Global,
     out: &mut Vec<Cube<W>>,
     cube: &Cube<W>,
@@ -168,7 +169,7 @@ fn put_flags<const W: u32>(
 }
 
 /// Appends the cube with these for the states, unless it is empty.
-fn put_state<const W: u32>(
+pub fn put_state<const W: u32>(
     alloc: Global,
     out: &mut Vec<Cube<W>>,
     cube: &Cube<W>,
@@ -187,7 +188,8 @@ pub fn push_cut<const W: u32>(
     cube: &Cube<W>,
     x: &Prim_<W>,
 ) -> Result<(), AllocError>
-    ensures { OnOk result (out.new.items ≡ out.old.items ++ cut_pieces x.now cube.now) }
+    ensures pieces { OnOk result (out.new.items ≡ out.old.items ++ cut_pieces x.now cube.now) }
+    ensures sound { OnOk result (IsSound x.now) }
 {
     match x {
         Prim_::Src(set) => put_src(alloc, out, cube, cube.src.and(alloc, set)?),
@@ -228,7 +230,8 @@ pub fn push_omit<const W: u32>(
     cube: &Cube<W>,
     x: &Prim_<W>,
 ) -> Result<(), AllocError>
-    ensures { OnOk result (out.new.items ≡ out.old.items ++ omit_pieces x.now cube.now) }
+    ensures pieces { OnOk result (out.new.items ≡ out.old.items ++ omit_pieces x.now cube.now) }
+    ensures sound { OnOk result (IsSound x.now) }
 {
     match x {
         Prim_::Src(set) => put_src(alloc, out, cube, cube.src.minus(alloc, set)?),

@@ -1,4 +1,5 @@
 ghost use Rattle.std.specs.Prelude.{◌≡◌, ◌++◌, ◌&&◌, [], ◌∷◌, IfOk, OnOk, not, ℕ};
+ghost use Rattle.std.specs.List.{AllByRecursion};
 ghost use Rattle.interval_set.specs.Numbers.{IsWidth};
 ghost use Rattle.match_expr.specs.FirstMatch.{first_match};
 ghost use Rattle.match_expr.specs.Meaning.{eval_of};
@@ -6,7 +7,9 @@ ghost use Rattle.primitives.specs.declared.prim.Packet.{Packet};
 ghost use Rattle.primitives.specs.Holds.{holds_of, IsValid};
 ghost use Rattle.box_norm.specs.Cubes.{any_holds};
 ghost use Rattle.box_norm.specs.Cuts.{Answers, cuts_by};
+ghost use Rattle.box_norm.specs.Disjoint.{AreDisjoint};
 ghost use Rattle.box_norm.specs.Normal.{NormalAnswers, first_of, whole_of, with_verdict};
+ghost use Rattle.box_norm.specs.Regular.{AreRegular, EachCube, HasStates, IsRegular, NamesAreOf, rule_patterns};
 
 use crate::cube::{Cube, CubeFault, SimpleRule};
 use crate::cuts::{cut_list, omit_list};
@@ -30,6 +33,9 @@ pub fn cut<const W: u32>(
     e: &Expr<Prim_<W>>,
 ) -> Result<List<Cube<W>>, CubeFault>
     ensures answers { Answers ((cuts_by {W = W} e.now).keep list.entry) result }
+    ensures disjoint { AreDisjoint list.entry → IfOk result (λ l. AreDisjoint l) }
+    ensures regular { AreRegular list.entry → IfOk result (λ l. AreRegular l) }
+    ensures states { AllByRecursion HasStates list.entry → IfOk result (AllByRecursion HasStates) }
     ensures packets { IfOk result (λ l. (p : Packet) → IsValid W p → any_holds l p ≡ (any_holds list.entry p && eval_of (λ x. holds_of x p) e.now)) }
 {
     cut_list(alloc, list.as_slice(), e)
@@ -47,6 +53,9 @@ pub fn cut_not<const W: u32>(
     e: &Expr<Prim_<W>>,
 ) -> Result<List<Cube<W>>, CubeFault>
     ensures answers { Answers ((cuts_by {W = W} e.now).omit list.entry) result }
+    ensures disjoint { AreDisjoint list.entry → IfOk result (λ l. AreDisjoint l) }
+    ensures regular { AreRegular list.entry → IfOk result (λ l. AreRegular l) }
+    ensures states { AllByRecursion HasStates list.entry → IfOk result (AllByRecursion HasStates) }
     ensures packets { IfOk result (λ l. (p : Packet) → IsValid W p → any_holds l p ≡ (any_holds list.entry p && not (eval_of (λ x. holds_of x p) e.now))) }
 {
     omit_list(alloc, list.as_slice(), e)
@@ -55,7 +64,8 @@ pub fn cut_not<const W: u32>(
 /// The cube of all packets, or `AllocError`.
 pub fn whole<const W: u32>(alloc: Global) -> Result<Cube<W>, AllocError>
     requires { IsWidth W }
-    ensures { IfOk result (λ c. c ≡ whole_of W) }
+    ensures value { IfOk result (λ c. c ≡ whole_of W) }
+    ensures regular { IfOk result (λ c. IsRegular c) }
 {
     Ok(Cube {
         in_name: NameSet::full(alloc)?,
@@ -100,7 +110,8 @@ fn normal_list<const W: u32>(
     rules: &[FlatRule<Prim_<W>>],
 ) -> Result<List<SimpleRule<W>>, CubeFault>
     requires { IsWidth W }
-    ensures { NormalAnswers rules.now result }
+    ensures answers { NormalAnswers rules.now result }
+    ensures regular { IfOk result (EachCube IsRegular) }
 {
     let start = whole_list(alloc)?;
     let mut out = Vec::new(alloc);
@@ -134,6 +145,9 @@ pub fn normal<const W: u32>(
     requires { IsWidth W }
     ensures answers { NormalAnswers rules.now result }
     ensures first { IfOk result (λ l. (p : Packet) → IsValid W p → first_of l p ≡ first_match (λ x. holds_of x p) rules.now) }
+    ensures regular { IfOk result (EachCube IsRegular) }
+    ensures states { IfOk result (EachCube HasStates) }
+    ensures patterns { IfOk result (EachCube (NamesAreOf (rule_patterns rules.now))) }
 {
     normal_list(alloc, rules)
 }
