@@ -1,0 +1,60 @@
+-- The bits of states in what two cubes have in common, and in one without the other.
+use Rattle.std.proofs.Common.{◌≡◌, ℕ, ◌<◌, List, [], ◌∷◌, Bool, true, false, Option, None, Some, sym, subst, bit_and, bit_xor}
+use Rattle.std.specs.Prelude.{if◌then◌else◌, IfSome}
+use Rattle.std.specs.List.{AllByRecursion, flat_map}
+use Rattle.interval_set.specs.Spelling.{set_minus}
+use Rattle.name_set.specs.declared.set.NameSet.{NameSet}
+use Rattle.box_norm.specs.declared.cube.Cube.{Cube}
+use Rattle.box_norm.specs.Cubes.{is_none, kept}
+use Rattle.box_norm.specs.Overlaps.{names_common, names_less, both_of, and_names, and_of, to_in_name, to_out_name, to_src, to_dst, to_proto, to_sport, to_dport, to_flags, with_out_names, minus_common, minus_of}
+use Rattle.box_norm.specs.Regular.{HasStates}
+use Rattle.box_norm.proofs.RegularLaws.{kept_all, all_append}
+use Rattle.box_norm.proofs.Stages.{upto1, upto2, upto3, upto4, upto5, upto6, upto7, upto8}
+use Rattle.box_norm.proofs.StayLaws.{and_states, less_states}
+
+unless_states : {W : ℕ} (b : Bool) (c : Cube W) → HasStates c → IfSome (if b then None else Some c) HasStates
+unless_states true c h = tt
+unless_states false c h = h
+
+names_states : {W : ℕ} (a b : Cube W) (i o : Option NameSet) → HasStates a → IfSome (and_names a b i o) HasStates
+names_states a b None o h = tt
+names_states a b (Some i) None h = tt
+names_states a b (Some i) (Some o) h = unless_states (is_none (both_of a b i o)) (both_of a b i o) (and_states a.state b.state h)
+
+pub some_states : {W : ℕ} (o : Option (Cube W)) (a b : Cube W) → o ≡ and_of a b → HasStates a → IfSome o HasStates
+some_states o a b e h = subst (λ z. IfSome z HasStates) (sym e) (names_states a b (names_common a.in_name b.in_name) (names_common a.out_name b.out_name) h)
+
+all_flat : {X Y : Type 0} (Q : Y → Type 0) (f : X → List Y) → ((x : X) → AllByRecursion Q (f x)) → (xs : List X) → AllByRecursion Q (flat_map f xs)
+all_flat Q f h [] = tt
+all_flat Q f h (x ∷ xs) = all_append Q (f x) (flat_map f xs) (h x) (all_flat Q f h xs)
+
+piece_states : {W : ℕ} (c : Cube W) → c.state < 32 → AllByRecursion HasStates (kept c)
+piece_states c h = kept_all HasStates c (λ _. h)
+
+module _ {W : ℕ} (a b m : Cube W) (h : a.state < 32) where
+  pub rest_states : AllByRecursion HasStates (minus_common a b (Some m))
+  rest_states =
+      all_append HasStates (upto8 a b m) (kept (record (to_flags m a) { state = bit_xor a.state (bit_and a.state b.state) }))
+      (all_append HasStates (upto7 a b m) (kept (record (to_dport m a) { flags = bit_xor a.flags (bit_and a.flags b.flags) }))
+      (all_append HasStates (upto6 a b m) (kept (record (to_sport m a) { dport = set_minus 16 a.dport b.dport }))
+      (all_append HasStates (upto5 a b m) (kept (record (to_proto m a) { sport = set_minus 16 a.sport b.sport }))
+      (all_append HasStates (upto4 a b m) (kept (record (to_dst m a) { proto = set_minus 8 a.proto b.proto }))
+      (all_append HasStates (upto3 a b m) (kept (record (to_src m a) { dst = set_minus W a.dst b.dst }))
+      (all_append HasStates (upto2 a b m) (kept (record (to_out_name m a) { src = set_minus W a.src b.src }))
+      (all_append HasStates (upto1 a b m) (with_out_names (to_in_name m a) (names_less a.out_name b.out_name))
+      (all_flat HasStates (λ s. kept (record a { in_name = s })) (λ s. piece_states (record a { in_name = s }) h) (names_less a.in_name b.in_name))
+      (all_flat HasStates (λ s. kept (record (to_in_name m a) { out_name = s })) (λ s. piece_states (record (to_in_name m a) { out_name = s }) h) (names_less a.out_name b.out_name)))
+      (piece_states (record (to_out_name m a) { src = set_minus W a.src b.src }) h))
+      (piece_states (record (to_src m a) { dst = set_minus W a.dst b.dst }) h))
+      (piece_states (record (to_dst m a) { proto = set_minus 8 a.proto b.proto }) h))
+      (piece_states (record (to_proto m a) { sport = set_minus 16 a.sport b.sport }) h))
+      (piece_states (record (to_sport m a) { dport = set_minus 16 a.dport b.dport }) h))
+      (piece_states (record (to_dport m a) { flags = bit_xor a.flags (bit_and a.flags b.flags) }) h))
+      (piece_states (record (to_flags m a) { state = bit_xor a.state (bit_and a.state b.state) }) (less_states a.state b.state h))
+
+common_states : {W : ℕ} (a b : Cube W) (o : Option (Cube W)) → HasStates a → AllByRecursion HasStates (minus_common a b o)
+common_states a b None h = (h, tt)
+common_states a b (Some m) h = rest_states a b m h
+
+pub minus_states : {W : ℕ} (a b : Cube W) → HasStates a → AllByRecursion HasStates (minus_of a b)
+minus_states a b h = common_states a b (and_of a b) h
