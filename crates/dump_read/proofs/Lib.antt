@@ -1,0 +1,11 @@
+pub mod LineLemmas
+pub mod NameLemmas
+pub mod StepLemmas
+pub mod TableLemmas
+pub mod FitLemmas
+pub mod ReadingLemmas
+pub mod Readers
+pub mod ByteLemmas
+pub mod StateLemmas
+pub mod TakeLemmas
+pub mod ReadLemmas

@@ -1,0 +1,22 @@
+-- What a reader's answer says of a text.
+use Rattle.std.specs.Prelude.{ℕ, All}
+use Rattle.std.specs.List.{AllByRecursion}
+use Rattle.primitives.specs.declared.prim.Prim_.{Prim_}
+use Rattle.fw_rule.specs.declared.rule.Rule.{Rule}
+use Rattle.fw_rule.specs.declared.rule.Chain.{Chain}
+use Rattle.fw_rule.specs.declared.rule.Dump.{Dump}
+use Rattle.dump_grammar.specs.Printable.{IsPrintableLiteral}
+use Rattle.dump_grammar.specs.Lines.{Text}
+use Rattle.dump_grammar.specs.Reads.{IsMalformed, HasNoFilter, IsUndefinedLine}
+use Rattle.dump_read.specs.declared.fault.ReadFault.{ReadFault}
+
+-- the fault is the text's own; want of memory says nothing of it
+abbrev pub IsFaultOf : (W : ℕ) (Reads : Text → ℕ → Type 0) → Text → ReadFault → Type 0
+IsFaultOf W Reads text (ReadFault.Malformed n) = IsMalformed W Reads text n
+IsFaultOf W Reads text ReadFault.NoFilter = HasNoFilter W Reads text
+IsFaultOf W Reads text (ReadFault.UndefinedChain n) = IsUndefinedLine W Reads text n
+IsFaultOf W Reads text ReadFault.Memory = Unit {0}
+
+-- each pattern of interface names in the dump can be printed
+abbrev pub IsPrintableDump : {W : ℕ} → Dump (Prim_ W) → Type 0
+IsPrintableDump {W} dump = All (λ (here : Chain (Prim_ W)). All (λ (rule : Rule (Prim_ W)). AllByRecursion IsPrintableLiteral rule.lits) here.rules) dump.chains

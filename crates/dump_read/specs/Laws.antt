@@ -1,0 +1,33 @@
+-- Laws of the grammar of dumps: what a text can be, it is in one way.
+use Rattle.std.specs.Prelude.{ℕ, ◌≡◌, List, ◌++◌}
+use Rattle.primitives.specs.declared.prim.Prim_.{Prim_}
+use Rattle.fw_rule.specs.declared.rule.Dump.{Dump}
+use Rattle.dump_grammar.specs.Lines.{Text}
+use Rattle.dump_grammar.specs.Tables.{Fit}
+use Rattle.dump_grammar.specs.Reads.{IsDump, IsMalformed, HasNoFilter, IsUndefinedLine}
+
+module _ (W : ℕ) (Reads : Text → ℕ → Type 0) where
+  -- a text is at most one dump
+  abbrev pub HasOneDump : Text → Type 0
+  HasOneDump text = (a b : Dump (Prim_ W)) → IsDump W Reads text a → IsDump W Reads text b → a ≡ b
+
+  -- at most one line is the first that is wrong
+  abbrev pub HasOneMalformedLine : Text → Type 0
+  HasOneMalformedLine text = (m n : ℕ) → IsMalformed W Reads text m → IsMalformed W Reads text n → m ≡ n
+
+  -- at most one line is the first whose chain isn't declared
+  abbrev pub HasOneUndefinedLine : Text → Type 0
+  HasOneUndefinedLine text = (m n : ℕ) → IsUndefinedLine W Reads text m → IsUndefinedLine W Reads text n → m ≡ n
+
+  -- a text is no two of these: a dump, malformed, without a filter, with a rule of a chain that isn't declared
+  pub record ExcludeEachOther (text : Text) : Type 0 where
+    pub dump_malformed : (dump : Dump (Prim_ W)) (n : ℕ) → IsDump W Reads text dump → IsMalformed W Reads text n → ⊥
+    pub dump_no_filter : (dump : Dump (Prim_ W)) → IsDump W Reads text dump → HasNoFilter W Reads text → ⊥
+    pub dump_undefined : (dump : Dump (Prim_ W)) (n : ℕ) → IsDump W Reads text dump → IsUndefinedLine W Reads text n → ⊥
+    pub malformed_no_filter : (n : ℕ) → IsMalformed W Reads text n → HasNoFilter W Reads text → ⊥
+    pub malformed_undefined : (m n : ℕ) → IsMalformed W Reads text m → IsUndefinedLine W Reads text n → ⊥
+    pub no_filter_undefined : (n : ℕ) → HasNoFilter W Reads text → IsUndefinedLine W Reads text n → ⊥
+
+  -- lines that fit still do where lines at their end are left out
+  abbrev pub FrontsFit : Type 0
+  FrontsFit = (front more : List Text) → Fit W Reads (front ++ more) → Fit W Reads front

@@ -1,0 +1,5 @@
+pub mod Positions
+pub mod Laws
+pub mod Parts
+pub mod States
+pub mod Answers

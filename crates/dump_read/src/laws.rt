@@ -1,0 +1,29 @@
+ghost use Rattle.std.specs.Prelude.{◌≤◌};
+ghost use Rattle.dump_read.specs.Laws.{ExcludeEachOther, FrontsFit, HasOneDump, HasOneMalformedLine, HasOneUndefinedLine};
+
+use addr_text::Family;
+
+/// That a text is at most one dump, and has at most one line that is malformed and one whose chain isn't declared. The
+/// call itself does nothing: its contract is the law.
+pub fn one_answer<F: Family<W>, const W: u32>(text: &[u8])
+    requires { W ≤ 128 }
+    ensures dump { HasOneDump W F.Reads text.now }
+    ensures malformed { HasOneMalformedLine W F.Reads text.now }
+    ensures undefined { HasOneUndefinedLine W F.Reads text.now }
+{
+    let _ = text;
+}
+
+/// That a text is no two of these: a dump, malformed, without a filter, with a rule of a chain that isn't declared. The
+/// call itself does nothing.
+pub fn one_kind<F: Family<W>, const W: u32>(text: &[u8])
+    requires { W ≤ 128 }
+    ensures { ExcludeEachOther W F.Reads text.now }
+{
+    let _ = text;
+}
+
+/// That a front of lines that fit fits. The call itself does nothing.
+pub fn fronts_fit<F: Family<W>, const W: u32>()
+    ensures { FrontsFit W F.Reads }
+{}

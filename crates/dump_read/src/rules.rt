@@ -1,0 +1,85 @@
+ghost use Rattle.std.specs.Prelude.{◌≡◌, ◌≤◌, ◌<◌, ◌+◌, ◌^◌, ◌∷◌, ◌++◌, [], ℕ, false, List as Seq, IfErr, IfOk, OnOk, length};
+ghost use Rattle.dump_grammar.specs.ChainLines.{is_among};
+ghost use Rattle.dump_grammar.specs.Tables.{Placed, names_of};
+ghost use Rattle.dump_grammar.specs.declared.chains.Declared.{Declared as AChain};
+ghost use Rattle.dump_read.specs.Parts.{OnMalformed};
+ghost use Rattle.dump_read.specs.States.{IsWritable, Keeps, with_rule};
+
+use crate::fault::LineFault;
+use crate::state::Reading;
+use dump_grammar::{Declared, RuleLine};
+use fw_rule::{Chain, Rule};
+use match_expr::List;
+use primitives::Prim_;
+use std::alloc::{AllocError, Global};
+use std::mem::replace;
+
+// Puts a rule last in a chain.
+fn push_rule<P: Drop>(alloc: Global, chain: &mut Chain<P>, rule: Rule<P>) -> Result<(), AllocError>
+    ensures { OnOk result (chain.new ≡ with_rule chain.old rule) }
+{
+    let mut rules = replace(&mut chain.rules, List::of(Vec::new(alloc))).into_vec();
+    rules.push(rule)?;
+    chain.rules = List::of(rules);
+    Ok(())
+}
+
+/// Adds a chain that a line declares.
+pub(crate) fn add_chain<const W: u32>(
+    alloc: Global,
+    state: &mut Reading<W>,
+    chain: Declared,
+) -> Result<(), LineFault>
+    requires { length state.old.names < 16777216 }
+    ensures added { OnOk result ((chains : Seq AChain) (rules : Seq (Placed W)) → Keeps state.old chains rules →
+        (rules ≡ []) × (is_among (names_of chains) chain.name ≡ false) × Keeps state.new (chains ++ chain ∷ []) []) }
+    ensures stuck { IfErr result (OnMalformed ((chains : Seq AChain) (rules : Seq (Placed W)) → Keeps state.old chains rules →
+        rules ≡ [] → is_among (names_of chains) chain.name ≡ false → ⊥)) }
+    ensures part { state.new.part ≡ state.old.part }
+    ensures has_filter { state.new.has_filter ≡ state.old.has_filter }
+{
+    if state.has_rules {
+        return Err(LineFault::Malformed);
+    }
+    if !state.names.declare(alloc, chain.name.as_slice())? {
+        return Err(LineFault::Malformed);
+    }
+    let Declared { name, policy } = chain;
+    state.chains.push(Chain {
+        name,
+        policy,
+        rules: List::of(Vec::new(alloc)),
+    })?;
+    Ok(())
+}
+
+/// Adds a rule of this line to its chain.
+pub(crate) fn add_rule<const W: u32>(
+    alloc: Global,
+    state: &mut Reading<W>,
+    rule: RuleLine<W>,
+    line: u32,
+) -> Result<(), AllocError>
+    requires stands { (chains : Seq AChain) × (rules : Seq (Placed W)) × Keeps state.old chains rules }
+    requires writable { IsWritable rule }
+    ensures added { OnOk result ((chains : Seq AChain) (rules : Seq (Placed W)) → Keeps state.old chains rules →
+        Keeps state.new chains (rules ++ record { number = line; rule = rule.entry } ∷ [])) }
+    ensures part { state.new.part ≡ state.old.part }
+    ensures has_filter { state.new.has_filter ≡ state.old.has_filter }
+{
+    let RuleLine {
+        chain,
+        literals,
+        action,
+    } = rule;
+    state.has_rules = true;
+    let Some(number) = state.names.number(chain.as_slice()) else {
+        if state.undefined.is_none() {
+            state.undefined = Some(line);
+        }
+        return Ok(());
+    };
+    let here = &mut state.chains[number as usize];
+    let lits = literals;
+    push_rule(alloc, here, Rule { lits, action, line })
+}
