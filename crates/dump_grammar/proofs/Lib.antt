@@ -1,6 +1,8 @@
 pub mod CounterLemmas
 pub mod PolicyLemmas
 pub mod PortLemmas
+pub mod CommaLemmas
+pub mod WordLemmas
 pub mod StateLemmas
 pub mod TargetLemmas
 pub mod OptionLemmas

@@ -5,7 +5,6 @@ use Rattle.std.specs.Prelude.{if◌then◌else◌}
 use Rattle.std.proofs.lemmas.Bool.Decides.{nat_tests}
 use Rattle.std.proofs.lemmas.List.{take_all, take_more}
 use Rattle.std.proofs.lemmas.List.Elements.{All-from_recursion}
-use Rattle.std.proofs.lemmas.List.Splits.{slice_split_at, slice_split_none}
 use Rattle.addr_text.specs.Parts.{Lacks}
 use Rattle.interval_set.specs.declared.set.Range.{Range}
 use Rattle.interval_set.specs.Numbers.{IsSet, has, is_within}
@@ -13,19 +12,10 @@ use Rattle.interval_set.specs.Spelling.{ranges_where, set_or}
 use Rattle.interval_set.proofs.Spelling.{spelled, where_ascends}
 use Rattle.dump_grammar.specs.Arguments.{ArePortRanges, IsPortList, IsPortRange, weight}
 use Rattle.dump_grammar.specs.Lines.{Text}
-use Rattle.dump_grammar.proofs.StateLemmas.{free_lacks}
-
-abbrev parts : Text → List Text
-parts text = slice_split (λ b. b == 44) text
+use Rattle.dump_grammar.proofs.CommaLemmas.{parts, parts_at, parts_last}
 
 abbrev pub weight_of : Text → ℕ
 weight_of part = if list_any (λ b. b == 58) part then 2 else 1
-
-parts_at : (rest part after : Text) → (rest ≡ part ++ 44 ∷ after) × Lacks 44 part → parts rest ≡ part ∷ parts after
-parts_at rest part after cut = ap parts cut.0 ∙ slice_split_at (λ x. x == 44) part 44 after (free_lacks part cut.1) refl
-
-parts_last : (rest : Text) → Lacks 44 rest → parts rest ≡ rest ∷ []
-parts_last rest free = slice_split_none (λ x. x == 44) rest (free_lacks rest free)
 
 -- what was read so far: what completes the rest completes the whole, and what the whole has, the rest has
 pub record PortsSoFar (text rest : Text) (found : List Range) (count : ℕ) : Type 0 where

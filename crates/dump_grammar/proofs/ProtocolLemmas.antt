@@ -1,7 +1,6 @@
 -- Protocol 0 is no protocol of its own.
-use Rattle.std.proofs.Common.{◌≡◌, ◌≤◌, ◌<◌, ◌∙◌, ℕ, zero, suc, List, [], ◌∷◌, Bool, true, false, ◌&&◌, Some, None, refl, arith, codes, inl, inr, decimal, subst, sym}
-use Rattle.std.specs.Prelude.{if◌then◌else◌, nat_lt}
-use Rattle.std.specs.Str.{bytes_eq}
+use Rattle.std.proofs.Common.{◌≡◌, ◌≤◌, ◌<◌, ◌∙◌, ℕ, zero, suc, List, Bool, true, false, Some, None, refl, arith, codes, inl, inr, decimal, subst, sym}
+use Rattle.std.specs.Prelude.{nat_lt}
 use Rattle.std.proofs.lemmas.Bool.Decides.{nat_tests}
 use Rattle.std.proofs.lemmas.Fmt.{decimal_digit, decimal_injective, decimal_is_IsNumeral}
 use Rattle.std.specs.Str.Parse.{AllDigits}
@@ -10,19 +9,10 @@ use Rattle.primitives.specs.declared.prim.Prim_.{Prim_}
 use Rattle.primitives.specs.Words.{Named, SpellsProto, number_in, proto_names}
 use Rattle.dump_grammar.specs.Lines.{Text}
 use Rattle.dump_grammar.specs.Literals.{IsEveryProtocol, IsProtocolLiteral}
+use Rattle.dump_grammar.proofs.WordLemmas.{number_passes}
 
-abbrev are_positive : List Named → Bool
-are_positive [] = true
-are_positive (word ∷ words) = nat_lt 0 word.number && are_positive words
-
-number_positive : (words : List Named) (text : List ℕ) (n : ℕ) → are_positive words ≡ true → number_in words text ≡ Some n → 1 ≤ n
-number_positive [] text n h is = cc
-number_positive (word ∷ words) text n h is = by_cases (bytes_eq word.name text) refl (λ k. number_positive words text n (grind (arith, h)) k) is
-  where
-    by_cases : (c : Bool) → bytes_eq word.name text ≡ c → (number_in words text ≡ Some n → 1 ≤ n) →
-        (if c then Some word.number else number_in words text) ≡ Some n → 1 ≤ n
-    by_cases true e rest k = grind (arith, nat_tests, h, k)
-    by_cases false e rest k = rest k
+number_positive : (text : List ℕ) (n : ℕ) → number_in proto_names text ≡ Some n → 1 ≤ n
+number_positive text n is = let passes = number_passes (λ (word : Named). nat_lt 0 word.number) proto_names text n refl is in grind (arith, nat_tests, passes)
 
 by_zero : (text : Text) (n : ℕ) → (IsEveryProtocol text → ⊥) → text ≡ decimal n → 1 ≤ n
 by_zero text zero other is = absurd (other (inr (is ∙ decimal_digit 0 (omega arith))))
@@ -30,7 +20,7 @@ by_zero text (suc n) other is = omega arith
 
 -- another text than those for every protocol has a number from 1
 pub protocol_positive : (text : Text) (n : ℕ) → (IsEveryProtocol text → ⊥) → SpellsProto text n → 1 ≤ n
-protocol_positive text n other (inl is) = number_positive proto_names text n refl is
+protocol_positive text n other (inl is) = number_positive text n is
 protocol_positive text n other (inr is) = by_zero text n other is.1
 
 no_number : (n : ℕ) → n ≤ 255 → codes "all" ≡ decimal n → ⊥

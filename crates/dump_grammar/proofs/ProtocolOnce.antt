@@ -1,8 +1,7 @@
 -- A text spells one protocol, and a line names one.
 use Rattle.std.proofs.Common.{◌≡◌, ◌∙◌, ◌≤◌, ◌<◌, ◌+◌, ◌++◌, ℕ, zero, suc, List, [], ◌∷◌, Bool, true, false, ◌&&◌, not, Some, refl, sym, ap, subst, arith, codes, inl, inr, ◌⊎◌, decimal, get_or, length, take, Contains}
-use Rattle.std.specs.Prelude.{if◌then◌else◌, nat_le}
+use Rattle.std.specs.Prelude.{nat_le}
 use Rattle.std.specs.Char.{digit_value}
-use Rattle.std.specs.Str.{bytes_eq}
 use Rattle.std.specs.Str.Parse.{AllDigits}
 use Rattle.std.proofs.lemmas.Bool.Decides.{nat_tests}
 use Rattle.std.proofs.lemmas.Fmt.{decimal_injective, decimal_is_IsNumeral}
@@ -18,24 +17,15 @@ use Rattle.dump_grammar.specs.GroupWords.{group_of, groups_of}
 use Rattle.dump_grammar.specs.Groups.{Group, Base, Module, ModuleOption, all_differ, base_of}
 use Rattle.dump_grammar.specs.Lines.{Text}
 use Rattle.dump_grammar.proofs.BaseLemmas.{same_only}
+use Rattle.dump_grammar.proofs.WordLemmas.{number_passes}
 
 -- the text begins with a byte that is no decimal digit
 abbrev begins_other : List ℕ → Bool
 begins_other [] = false
 begins_other (b ∷ bs) = nat_le 10 (digit_value b)
 
-abbrev all_begin_other : List Named → Bool
-all_begin_other [] = true
-all_begin_other (word ∷ words) = begins_other word.name && all_begin_other words
-
-name_begins : (words : List Named) (text : Text) (n : ℕ) → all_begin_other words ≡ true → number_in words text ≡ Some n → begins_other text ≡ true
-name_begins [] text n h is = cc
-name_begins (word ∷ words) text n h is = by_cases (bytes_eq word.name text) refl (λ k. name_begins words text n (grind (arith, h)) k) is
-  where
-    by_cases : (c : Bool) → bytes_eq word.name text ≡ c → (number_in words text ≡ Some n → begins_other text ≡ true) →
-        (if c then Some word.number else number_in words text) ≡ Some n → begins_other text ≡ true
-    by_cases true e rest k = subst (λ (t : Text). begins_other t ≡ true) ((bytes_eq-Decides word.name text).0 e) (grind (arith, h))
-    by_cases false e rest k = rest k
+name_begins : (text : Text) (n : ℕ) → number_in proto_names text ≡ Some n → begins_other text ≡ true
+name_begins text n is = number_passes (λ (word : Named). begins_other word.name) proto_names text n refl is
 
 no_digits : (text : Text) → begins_other text ≡ true → AllDigits 10 text → ⊥
 no_digits [] h digits = let f : false ≡ true = h in cc
@@ -43,7 +33,7 @@ no_digits (b ∷ bs) h digits = let first = digits.0 in grind (arith, nat_tests,
 
 name_no_number : (text : Text) (n m : ℕ) → number_in proto_names text ≡ Some n → m ≤ 255 → text ≡ decimal m → ⊥
 name_no_number text n m named small is =
-    no_digits text (name_begins proto_names text n refl named) (subst (AllDigits 10) (sym is) (decimal_is_IsNumeral m (omega (arith, small))).0.1)
+    no_digits text (name_begins text n named) (subst (AllDigits 10) (sym is) (decimal_is_IsNumeral m (omega (arith, small))).0.1)
 
 pub proto_once : (text : Text) (n m : ℕ) → SpellsProto text n → SpellsProto text m → n ≡ m
 proto_once text n m (inl p) (inl q) = let h : Some n ≡ Some m = sym p ∙ q in cc

@@ -1,14 +1,15 @@
 -- States that parts between commas name.
-use Rattle.std.proofs.Common.{◌≡◌, ◌≢◌, ◌==◌, ℕ, List, [], ◌∷◌, ◌++◌, ◌<◌, ◌^◌, Bool, true, false, ◌&&◌, Option, Some, None, All, bit_or, slice_index_or, refl, sym, ◌∙◌, ap, arith}
+use Rattle.std.proofs.Common.{◌≡◌, ◌==◌, ℕ, List, ◌∷◌, ◌++◌, ◌<◌, ◌^◌, Option, Some, None, bit_or, refl, sym, ◌∙◌, ap, arith}
 use Rattle.std.specs.List.{slice_split}
 use Rattle.std.proofs.lemmas.Bool.Decides.{nat_tests}
-use Rattle.std.proofs.lemmas.List.Splits.{slice_split_at, slice_split_none}
+use Rattle.addr_text.specs.Parts.{Lacks}
 use Rattle.std.specs.Int.Bits.{or_zero_r}
 use Rattle.std.proofs.lemmas.Nat.Bits.{bit_at_or, same_from_bits}
-use Rattle.std.specs.Prelude.{nat_lt, if◌then◌else◌}
-use Rattle.std.specs.Str.{bytes_eq}
+use Rattle.std.specs.Prelude.{nat_lt}
 use Rattle.primitives.specs.Words.{Named, flags_of_both, number_in, state_names}
 use Rattle.dump_grammar.specs.Arguments.{bit_of, state_of, states_of}
+use Rattle.dump_grammar.proofs.CommaLemmas.{parts_at, parts_last}
+use Rattle.dump_grammar.proofs.WordLemmas.{number_passes}
 
 or_assoc : (a b c : ℕ) → bit_or (bit_or a b) c ≡ bit_or a (bit_or b c)
 or_assoc a b c = same_from_bits (bit_or (bit_or a b) c) (bit_or a (bit_or b c)) (λ i.
@@ -25,59 +26,37 @@ both_more : (f b : ℕ) (r : Option ℕ) → flags_of_both (Some f) (flags_of_bo
 both_more f b None = refl
 both_more f b (Some a) = ap Some (sym (or_assoc f b a))
 
-abbrev pub IsFree : List ℕ → Type 0
-IsFree text = All (λ b. b ≢ 44) text
-
-not_comma : (b : ℕ) → b ≢ 44 → (b == 44) ≡ false
-not_comma b h = let f : b ≡ 44 → ⊥ = h in grind (arith, nat_tests, f)
-
-pub free_lacks : (text : List ℕ) → IsFree text → All (λ b. (b == 44) ≡ false) text
-free_lacks text h = λ k d small. not_comma (slice_index_or text k d) (h k d small)
-
 -- a first part that names a state is passed
-pub state_passed : (rest part after : List ℕ) (f b : ℕ) (w : Option ℕ) → (rest ≡ part ++ 44 ∷ after) × IsFree part → state_of part ≡ Some b →
+pub state_passed : (rest part after : List ℕ) (f b : ℕ) (w : Option ℕ) → (rest ≡ part ++ 44 ∷ after) × Lacks 44 part → state_of part ≡ Some b →
     flags_of_both (Some f) (states_of (slice_split (λ x. x == 44) rest)) ≡ w → flags_of_both (Some (bit_or f b)) (states_of (slice_split (λ x. x == 44) after)) ≡ w
 state_passed rest part after f b w cut is all =
     let parts = slice_split (λ x. x == 44) after in
-    let e : slice_split (λ x. x == 44) rest ≡ part ∷ parts = ap (slice_split (λ x. x == 44)) cut.0 ∙ slice_split_at (λ x. x == 44) part 44 after (free_lacks part cut.1) refl in
+    let e = parts_at rest part after cut in
     sym (both_more f b (states_of parts)) ∙ ap (λ r. flags_of_both (Some f) (flags_of_both r (states_of parts))) (sym is)
     ∙ ap (λ ps. flags_of_both (Some f) (states_of ps)) (sym e) ∙ all
 
 -- where the first part names no state, the list names none
-pub state_unknown : (rest part after : List ℕ) (f : ℕ) (w : Option ℕ) → (rest ≡ part ++ 44 ∷ after) × IsFree part → state_of part ≡ None →
+pub state_unknown : (rest part after : List ℕ) (f : ℕ) (w : Option ℕ) → (rest ≡ part ++ 44 ∷ after) × Lacks 44 part → state_of part ≡ None →
     flags_of_both (Some f) (states_of (slice_split (λ x. x == 44) rest)) ≡ w → None ≡ w
 state_unknown rest part after f w cut is all =
     let parts = slice_split (λ x. x == 44) after in
-    let e : slice_split (λ x. x == 44) rest ≡ part ∷ parts = ap (slice_split (λ x. x == 44)) cut.0 ∙ slice_split_at (λ x. x == 44) part 44 after (free_lacks part cut.1) refl in
+    let e = parts_at rest part after cut in
     ap (λ r. flags_of_both (Some f) (flags_of_both r (states_of parts))) (sym is) ∙ ap (λ ps. flags_of_both (Some f) (states_of ps)) (sym e) ∙ all
 
 -- the last part
-pub state_last : (rest : List ℕ) (f : ℕ) (w r : Option ℕ) → IsFree rest → state_of rest ≡ r →
+pub state_last : (rest : List ℕ) (f : ℕ) (w r : Option ℕ) → Lacks 44 rest → state_of rest ≡ r →
     flags_of_both (Some f) (states_of (slice_split (λ x. x == 44) rest)) ≡ w → flags_of_both (Some f) (flags_of_both r (Some 0)) ≡ w
 state_last rest f w r free is all =
-    let e : slice_split (λ x. x == 44) rest ≡ rest ∷ [] = slice_split_none (λ x. x == 44) rest (free_lacks rest free) in
+    let e = parts_last rest free in
     ap (λ q. flags_of_both (Some f) (flags_of_both q (Some 0))) (sym is) ∙ ap (λ ps. flags_of_both (Some f) (states_of ps)) (sym e) ∙ all
 
-pub state_last_some : (rest : List ℕ) (f b : ℕ) (w : Option ℕ) → IsFree rest → state_of rest ≡ Some b →
+pub state_last_some : (rest : List ℕ) (f b : ℕ) (w : Option ℕ) → Lacks 44 rest → state_of rest ≡ Some b →
     flags_of_both (Some f) (states_of (slice_split (λ x. x == 44) rest)) ≡ w → Some (bit_or f b) ≡ w
 state_last_some rest f b w free is all = ap (λ n. Some (bit_or f n)) (sym (or_zero b)) ∙ state_last rest f w (Some b) free is all
 
-abbrev are_small : List Named → Bool
-are_small [] = true
-are_small (word ∷ words) = nat_lt word.number 5 && are_small words
-
-number_small : (words : List Named) (text : List ℕ) (n : ℕ) → are_small words ≡ true → number_in words text ≡ Some n → n < 5
-number_small [] text n h is = cc
-number_small (word ∷ words) text n h is = by_cases (bytes_eq word.name text) refl (λ k. number_small words text n (grind (arith, h)) k) is
-  where
-    by_cases : (c : Bool) → bytes_eq word.name text ≡ c → (number_in words text ≡ Some n → n < 5) →
-        (if c then Some word.number else number_in words text) ≡ Some n → n < 5
-    by_cases true e rest k = grind (arith, nat_tests, h, k)
-    by_cases false e rest k = rest k
-
 -- a state is below 5
 pub state_small : (text : List ℕ) (n : ℕ) → number_in state_names text ≡ Some n → n < 5
-state_small text n is = number_small state_names text n refl is
+state_small text n is = let passes = number_passes (λ (word : Named). nat_lt word.number 5) state_names text n refl is in grind (arith, nat_tests, passes)
 
 pub bit_is : (text : List ℕ) (n b : ℕ) → number_in state_names text ≡ Some n → b ≡ 2 ^ n → Some b ≡ state_of text
 unfolding state_of

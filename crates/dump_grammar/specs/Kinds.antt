@@ -50,6 +50,7 @@ option_name Kind.State = codes "--state"
 option_name Kind.ConnectionState = codes "--ctstate"
 option_name Kind.Comment = codes "--comment"
 
+-- all of them
 abbrev pub all_kinds : List Kind
 all_kinds =
     Kind.Port Transport.Tcp Side.Source ∷

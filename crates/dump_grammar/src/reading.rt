@@ -58,7 +58,8 @@ fn target(alloc: Global, words: &[Token], names: &ChainNames) -> Result<Option<A
 }
 
 /// What the words of a rule line say: `-A CHAIN` after an optional counter, groups, and perhaps a target. `names` are
-/// the declared chains. None comes exactly where the words are no rule line.
+/// the declared chains; the line's chain need not be one of them. W is 32 or 128, the number of bits of an address. None
+/// comes exactly where the words are no rule line, and an error only for want of memory.
 pub fn rule_line<F: Family<W>, const W: u32>(
     alloc: Global,
     words: &[Token],
