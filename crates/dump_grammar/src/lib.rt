@@ -38,4 +38,6 @@ pub use states::state_list;
 pub use targets::jump;
 
 #[cfg(test)]
+mod rule_tests;
+#[cfg(test)]
 mod tests;
