@@ -26,7 +26,8 @@ const MOST: usize = 131_072;
 ///
 /// The parts of `All` cut one after another. At a test each cube is replaced by its pieces, in order, without empty
 /// ones. `CubeFault::Boxes` exactly where a list of more than 16,384 cubes comes up on the way, also one that isn't used
-/// further; never `CubeFault::Rules`.
+/// further; never `CubeFault::Rules`. Cubes that share no packet give cubes that share none, and regular cubes give
+/// regular ones.
 pub fn cut<const W: u32>(
     alloc: Global,
     list: List<Cube<W>>,
@@ -46,7 +47,7 @@ pub fn cut<const W: u32>(
 /// At `All` those where the first part doesn't hold stand first, then those where it holds and the second doesn't, and so
 /// on. At a negated test of ports or flags each cube gives two pieces: the other protocols, then the test's protocol with
 /// the other ports or flags. `CubeFault::Boxes` exactly where a list of more than 16,384 cubes comes up on the way;
-/// never `CubeFault::Rules`.
+/// never `CubeFault::Rules`. Cubes that share no packet give cubes that share none, and regular cubes give regular ones.
 pub fn cut_not<const W: u32>(
     alloc: Global,
     list: List<Cube<W>>,
@@ -61,7 +62,7 @@ pub fn cut_not<const W: u32>(
     omit_list(alloc, list.as_slice(), e)
 }
 
-/// The cube of all packets, or `AllocError`.
+/// The cube of all packets, which is regular, or `AllocError`.
 pub fn whole<const W: u32>(alloc: Global) -> Result<Cube<W>, AllocError>
     requires { IsWidth W }
     ensures value { IfOk result (λ c. c ≡ whole_of W) }
@@ -137,7 +138,8 @@ fn normal_list<const W: u32>(
 ///
 /// `CubeFault::Boxes` exactly where `cut` answers it for some rule, else `CubeFault::Rules` exactly where the simple
 /// rules are more than 131,072. For each valid packet the first simple rule that holds gives the verdict of the first flat
-/// rule whose expression holds.
+/// rule whose expression holds. Each cube is regular, and each pattern in its names, but for a base of every name, stands
+/// in a test of the rules.
 pub fn normal<const W: u32>(
     alloc: Global,
     rules: &[FlatRule<Prim_<W>>],
