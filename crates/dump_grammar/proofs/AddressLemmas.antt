@@ -1,5 +1,5 @@
 -- Nets of a family are in its width.
-use Rattle.std.proofs.Common.{◌≡◌, ◌<◌, ◌≤◌, ◌-◌, ◌^◌, ℕ, Bool, List, arith, inl, inr}
+use Rattle.std.proofs.Common.{ℕ, Bool, List}
 use Rattle.addr_text.specs.Nets.{IsNetText}
 use Rattle.addr_text.specs.declared.net.Net.{Net}
 use Rattle.fw_rule.specs.declared.rule.Lit.{Lit}
@@ -9,18 +9,6 @@ use Rattle.dump_grammar.specs.Lines.{Text}
 use Rattle.dump_grammar.specs.Literals.{IsNetLiteral}
 
 module _ (W : ℕ) (Reads : Text → ℕ → Type 0) where
-  pub net_small : ((text : Text) (value : ℕ) → Reads text value → value < 2 ^ W) → (text : Text) (value len : ℕ) → IsNetText Reads W text (Net.Prefix value len)
-      → (value ≤ 2 ^ W - 1) × (len ≤ W)
-  net_small fits text value len (inl (address, reads, is)) =
-      let small = fits text address reads in
-      let e : value ≡ address = cc in
-      let f : len ≡ W = cc in
-      (omega (arith, small, e), omega (arith, f))
-  net_small fits text value len (inr (front, back, address, split, reads, of)) =
-      let small = fits front address reads in
-      let e = of.1 in
-      (omega (arith, small, e), of.0.0)
-
   pub no_net : (prim : List Range → Prim_ W) (text : Text) (negated : Bool) (unknown : Text) (l : Lit (Prim_ W)) → ((net : Net) → IsNetText Reads W text net → ⊥)
       → IsNetLiteral Reads prim text negated unknown l → ⊥
   no_net prim text negated unknown (Lit.Known neg expr) none is = none (Net.Prefix is.0 is.1) is.2.0

@@ -63,46 +63,6 @@ group_front current words (Base negated option arguments) rest is = (negated, op
 group_front current words (Module name) rest is = (false, codes "-m", is.0 ∷ rest, module_mark (codes "-m") refl, is.1.0)
 group_front current words (ModuleOption named negated option arguments) rest is = (negated, option, is.0 ++ rest, option_mark option is.1.2, is.1.0)
 
--- the same group, told by the option at its front and the words after it
-abbrev pub GroupAt : Option Text → Bool → Text → List Word → Group → List Word → Type 0
-GroupAt current negated option more (Base n o a) rest =
-    (is_among base_options option ≡ true) × ((taken : List Word) × ((more ≡ taken ++ rest) × (arity_of [] option ≡ Some (length taken))))
-GroupAt current negated option more (Module name) rest = (option ≡ codes "-m") × (negated ≡ false) × ((value : Word) × (more ≡ value ∷ rest))
-GroupAt current negated option more (ModuleOption m n o a) rest =
-    IsOptionName option × ((taken : List Word) × ((more ≡ taken ++ rest) × Takes (arity_in current option) taken rest))
-
-pub group_at : (current : Option Text) (words : List Word) (negated : Bool) (option : Text) (more : List Word) (g : Group) (rest : List Word)
-    → words ≡ mark_words negated ++ bare option ∷ more → option ≢ codes "!" → IsGroup current words g rest → GroupAt current negated option more g rest
-group_at current words negated option more (Base n o a) rest whole other is =
-    let once = mark_once negated n option o more (is.0 ++ rest) other (base_mark o is.1.1) (sym whole ∙ is.1.0) in
-    (subst (λ (t : Text). is_among base_options t ≡ true) (sym once.1) is.1.1, (is.0, (once.2, subst (λ (t : Text). arity_of [] t ≡ Some (length is.0)) (sym once.1) is.1.2)))
-group_at current words negated option more (Module name) rest whole other is =
-    let once = mark_once negated false option (codes "-m") more (is.0 ∷ rest) other (module_mark (codes "-m") refl) (sym whole ∙ is.1.0) in
-    (once.1, once.0, (is.0, once.2))
-group_at current words negated option more (ModuleOption m n o a) rest whole other is =
-    let once = mark_once negated n option o more (is.0 ++ rest) other (option_mark o is.1.2) (sym whole ∙ is.1.0) in
-    (subst IsOptionName (sym once.1) is.1.2, (is.0, (once.2, subst (λ (t : Text). Takes (arity_in current t) is.0 rest) (sym once.1) is.1.3)))
-
-pub only_module : (current : Option Text) (negated : Bool) (option : Text) (more : List Word) (g : Group) (rest : List Word)
-    → option ≡ codes "-m" → GroupAt current negated option more g rest → (negated ≡ false) × ((value : Word) × (more ≡ value ∷ rest))
-only_module current negated option more (Base n o a) rest is at = absurd (module_no_base option is at.0)
-only_module current negated option more (Module name) rest is at = (at.1, at.2)
-only_module current negated option more (ModuleOption m n o a) rest is at = absurd (module_no_option option is at.0)
-
-pub only_base : (current : Option Text) (negated : Bool) (option : Text) (more : List Word) (g : Group) (rest : List Word)
-    → is_among base_options option ≡ true → GroupAt current negated option more g rest
-    → (taken : List Word) × ((more ≡ taken ++ rest) × (arity_of [] option ≡ Some (length taken)))
-only_base current negated option more (Base n o a) rest is at = at.1
-only_base current negated option more (Module name) rest is at = absurd (module_no_base option at.0 is)
-only_base current negated option more (ModuleOption m n o a) rest is at = absurd (base_plain option is at.0)
-
-pub only_named : (current : Option Text) (negated : Bool) (option : Text) (more : List Word) (g : Group) (rest : List Word)
-    → (option ≡ codes "-m" → ⊥) → (is_among base_options option ≡ true → ⊥) → GroupAt current negated option more g rest
-    → IsOptionName option × ((taken : List Word) × ((more ≡ taken ++ rest) × Takes (arity_in current option) taken rest))
-only_named current negated option more (Base n o a) rest no_module no_base at = absurd (no_base at.0)
-only_named current negated option more (Module name) rest no_module no_base at = absurd (no_module at.0)
-only_named current negated option more (ModuleOption m n o a) rest no_module no_base at = at
-
 -- words are parted in one way by how many come first
 cut_once : (a b x y : List Word) → a ++ b ≡ x ++ y → length a ≡ length x → (a ≡ x) × (b ≡ y)
 cut_once [] b [] y e long = (refl, e)

@@ -9,7 +9,7 @@ use Rattle.dump_grammar.specs.GroupWords.{group_of, groups_of}
 use Rattle.dump_grammar.specs.ChainLines.{is_among}
 use Rattle.dump_grammar.specs.Groups.{Group, Base, Module, ModuleOption, base_of}
 use Rattle.dump_grammar.specs.Lines.{Text}
-use Rattle.dump_grammar.specs.Literals.{AreLiterals, IsBaseLiteral, IsOptionLiteral, modules_literals}
+use Rattle.dump_grammar.specs.Literals.{AreLiterals, IsBaseLiteral}
 
 -- the group can't stand in a line
 abbrev pub GivesNone : (W : ℕ) → (Text → ℕ → Type 0) → List Group → Group → List Group → Type 0
@@ -69,14 +69,6 @@ module _ {W : ℕ} (Reads : Text → ℕ → Type 0) (groups : List Group) where
   base_gives_none g after n o a same none ls are =
       let its = subst (λ (x : Group). AreLiterals Reads groups (x ∷ after) ls) same are in
       none its.0 its.2.1
-
-  pub option_gives : (g : Group) (after : List Group) (c : Option Text) (n : Bool) (o : Text) (a : List Text) (l : Lit (Prim_ W)) → g ≡ ModuleOption c n o a
-      → IsOptionLiteral Reads groups c n o a l → GivesLiteral g after (Some l)
-  option_gives g after c n o a l same is rest are = subst (λ (x : Group). AreLiterals Reads groups (x ∷ after) (l ∷ rest)) (sym same) (l, rest, (refl, is, are))
-
-  pub module_gives : (g : Group) (after : List Group) (name : Text) (l : Option (Lit (Prim_ W))) → g ≡ Module name → option_to_list l ≡ modules_literals name after → GivesLiteral g after l
-  module_gives g after name l same is rest are =
-      subst (λ (x : Group). AreLiterals Reads groups (x ∷ after) (option_to_list l ++ rest)) (sym same) (rest, (ap (λ (ls : List (Lit (Prim_ W))). ls ++ rest) is, are))
 
 -- the group at a place and those after it
 pub groups_here : (gs : List GroupWords) (i : ℕ) (g : GroupWords) → i < length gs → g ≡ get_or gs i g

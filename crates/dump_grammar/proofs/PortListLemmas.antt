@@ -24,14 +24,6 @@ pub record PortsSoFar (text rest : Text) (found : List Range) (count : ℕ) : Ty
   pub counted : count + weight (slice_split (λ b. b == 44) rest) ≡ weight (slice_split (λ b. b == 44) text)
   pub small : count ≤ 15
 
-pub ports_begin : (text : Text) (found : List Range) → found ≡ [] → PortsSoFar text text found 0
-ports_begin text found none = record {
-  read = λ more are. subst (λ (rs : List Range). ArePortRanges (parts text) (rs ++ more)) (sym none) are;
-  each = λ rs are. (rs, are);
-  counted = omega arith;
-  small = omega arith;
-}
-
 first_range : (part : Text) (texts : List Text) (rs : List Range) → ArePortRanges (part ∷ texts) rs → (r : Range) × (more : List Range) × (IsPortRange part r × ArePortRanges texts more)
 first_range part texts [] are = absurd are
 first_range part texts (r ∷ rs) are = (r, rs, (are.0, are.1))
@@ -98,9 +90,6 @@ all_ordered (text ∷ texts) (r ∷ rs) are = (range_ordered text r are.0, all_o
 
 pub list_ordered : (text : Text) (rs : List Range) → IsPortList text rs → All IsOrdered rs
 list_ordered text rs list = All-from_recursion IsOrdered rs (all_ordered (parts text) rs list.0)
-
-pub one_ordered : (text : Text) (r : Range) → IsPortRange text r → All IsOrdered (r ∷ [])
-one_ordered text r is = All-from_recursion IsOrdered (r ∷ []) (range_ordered text r is, tt)
 
 has_last : (rs : List Range) (r : Range) (n : ℕ) → has (rs ++ r ∷ []) n ≡ (has rs n || is_within r n)
 has_last [] r n = grind (arith, nat_tests)

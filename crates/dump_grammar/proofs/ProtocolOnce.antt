@@ -41,12 +41,6 @@ proto_once text n m (inl p) (inr q) = absurd (name_no_number text n m p q.0 q.1)
 proto_once text n m (inr p) (inl q) = absurd (name_no_number text m n q p.0 p.1)
 proto_once text n m (inr p) (inr q) = let a = p.0 in let b = q.0 in decimal_injective n m (omega (arith, a)) (omega (arith, b)) (sym p.1 ∙ q.1)
 
--- the group at a place is among the groups
-contains_here : (gs : List GroupWords) (i : ℕ) (g : GroupWords) → i < length gs → g ≡ get_or gs i g → Contains (groups_of gs) (group_of g)
-contains_here [] i g inside is = absurd (omega (arith, inside))
-contains_here (x ∷ gs) zero g inside is = (0, omega arith, ap group_of (sym is))
-contains_here (x ∷ gs) (suc i) g inside is = let more = contains_here gs i g (omega (arith, inside)) is in let small = more.1 in (suc more.0, omega (arith, small), more.2)
-
 contains_cases : (g : Group) (gs : List Group) (x : Group) → Contains (g ∷ gs) x → (g ≡ x) ⊎ Contains gs x
 contains_cases g gs x (zero, inside, is) = inl is
 contains_cases g gs x (suc k, inside, is) = inr (k, omega (arith, inside), is)
@@ -123,9 +117,3 @@ line_none_begin gs n (name, (has, spells, ports)) = let f = has.1 in absurd (ome
 
 pub line_none_all : (gs : List GroupWords) (i : ℕ) → length gs ≤ i → ((n : ℕ) → LineProtocol (groups_of (take i gs)) n → ⊥) → (n : ℕ) → LineProtocol (groups_of gs) n → ⊥
 line_none_all gs i all none n line = none n (subst (λ (xs : List GroupWords). LineProtocol (groups_of xs) n) (sym (take_all i gs all)) line)
-
--- the group at a place names the line's protocol
-pub line_here : (gs : List GroupWords) (i : ℕ) (g : GroupWords) (n : ℕ) → i < length gs → g ≡ get_or gs i g
-    → (name : Text) × ((group_of g ≡ Base false (codes "-p") (name ∷ [])) × SpellsProto name n × HasPorts n) → LineProtocol (groups_of gs) n
-line_here gs i g n inside is (name, (same, spells, ports)) =
-    (name, (subst (λ (x : Group). Contains (groups_of gs) x) same (contains_here gs i g inside is), spells, ports))

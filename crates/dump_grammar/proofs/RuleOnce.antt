@@ -145,13 +145,6 @@ module _ {W : ℕ} (Reads : Text → ℕ → Type 0) (names : List Text) (words 
         targeted = subst (λ (ws : List Word). IsTarget names ws rule.action) (sym same.1) is.targeted;
       }
 
-  -- words without groups after their head are no rule line
-  pub no_groups : (chain : Text) (rest : List Word) (rule : RuleLine W) → IsRuleHead words chain rest
-      → ((groups : List Group) (target : List Word) → AreGroups None rest groups target → EndsGroups target → ⊥) → IsRuleLine Reads names words rule → ⊥
-  no_groups chain rest rule head none is =
-      let begins = head_once words chain rule.chain rest is.rest head is.head in
-      none is.groups is.target (subst (λ (ws : List Word). AreGroups None ws is.groups is.target) (sym begins.1) is.grouped) (target_ends names is.target rule.action is.targeted)
-
 same_rule : {W : ℕ} (a b : RuleLine W) → a.chain ≡ b.chain → a.literals ≡ b.literals → a.action ≡ b.action → a ≡ b
 same_rule a b e f g = λ i. record { chain = e i; literals = f i; action = g i }
 

@@ -1,10 +1,8 @@
 -- The text of a group that isn't understood, put together from its front.
-use Rattle.std.proofs.Common.{◌≡◌, ◌∙◌, ◌+◌, ◌<◌, ◌++◌, ◌∷◌, [], ℕ, List, refl, sym, ap, append_assoc, append-nil, get_or, length, take}
+use Rattle.std.proofs.Common.{◌≡◌, ◌∙◌, ◌++◌, ◌∷◌, [], List, refl, sym, ap, append_assoc, append-nil}
 use Rattle.std.specs.List.{flat_map, join_with_byte}
 use Rattle.std.proofs.lemmas.Grind.{flat_map-append}
-use Rattle.std.proofs.lemmas.List.{map-append, take_more}
-use Rattle.dump_token.specs.declared.token.Token.{Token}
-use Rattle.dump_grammar.specs.Lines.{Text, Word, texts, word_of, words_of}
+use Rattle.dump_grammar.specs.Lines.{Text}
 
 abbrev pub ended : List Text → Text
 ended ts = flat_map (λ (t : Text). t ++ 32 ∷ []) ts
@@ -35,13 +33,3 @@ joined_is a b c d e ms ks o as' f0 f1 f2 f3 f4 =
     ∙ ap (λ (t : Text). ended (ms ++ ks) ++ t) (sym (joined_rest o as'))
     ∙ sym (joined_front (ms ++ ks) o as')
     ∙ ap (join_with_byte 32) (append_assoc ms ks (o ∷ as'))
-
--- one word more
-pub begun_more : (ws : List Token) (i : ℕ) (w : Token) → i < length ws → w ≡ get_or ws i w →
-    begun (texts (words_of (take (i + 1) ws))) ≡ begun (texts (words_of (take i ws))) ++ 32 ∷ w.text
-begun_more ws i w inside is =
-    ap (λ (vs : List Token). begun (texts (words_of vs))) (take_more ws i w inside ∙ ap (λ (v : Token). take i ws ++ v ∷ []) (sym is))
-    ∙ ap (λ (vs : List Word). begun (texts vs)) (map-append word_of (take i ws) (w ∷ []))
-    ∙ ap begun (map-append (λ (v : Word). v.text) (words_of (take i ws)) (word_of w ∷ []))
-    ∙ flat_map-append (λ (t : Text). 32 ∷ t) (texts (words_of (take i ws))) (w.text ∷ [])
-    ∙ ap (λ (t : Text). begun (texts (words_of (take i ws))) ++ (32 ∷ t)) (append-nil w.text)
