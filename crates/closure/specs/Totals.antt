@@ -9,6 +9,7 @@ use Rattle.closure.specs.Counts.{capped}
 abbrev pub with_literals : {P : Type 0} → Total → Expr P → Total
 with_literals s e = record { literals = capped (s.literals + literal_count e) }
 
+-- the sum over all flat rules
 abbrev pub total_of : List (Total × Bool) → ℕ
 total_of [] = 0
 total_of (x ∷ xs) = (x.0).literals + total_of xs
