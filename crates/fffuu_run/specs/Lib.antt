@@ -1,3 +1,5 @@
+pub mod Counts
+pub mod Checks
 pub mod Filters
 pub mod Answers
 pub mod Lines

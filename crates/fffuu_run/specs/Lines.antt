@@ -3,6 +3,8 @@ use Rattle.std.specs.Prelude.{ℕ, List, [], ◌∷◌, ◌++◌, codes, decimal
 use Rattle.fw_text.specs.Names.{shown_name}
 use Rattle.fffuu_run.specs.declared.status.Status.{Status}
 use Rattle.fffuu_run.specs.declared.status.Status.TheVariants as status
+use Rattle.fffuu_run.specs.declared.status.Kind.{Kind}
+use Rattle.fffuu_run.specs.declared.status.Kind.TheVariants as kind
 use Rattle.fffuu_run.specs.declared.telling.Line.{Line}
 use Rattle.fffuu_run.specs.declared.telling.Line.TheVariants as line
 
@@ -12,9 +14,18 @@ code_of status.Usage = 1
 code_of status.ReadFault = 2
 code_of status.WriteFault = 3
 code_of status.InputTooLong = 4
+code_of (status.Malformed n) = 5
+code_of status.NoFilter = 6
+code_of (status.UndefinedChain n) = 7
 code_of status.NoChain = 8
+code_of (status.Unsupported n name) = 9
+code_of (status.CallLoop name) = 10
+code_of (status.Limit k) = 11
 code_of status.Memory = 12
 code_of (status.Later n) = 13
+
+abbrev pub word_of : Kind → List ℕ
+word_of kind.Depth = codes "depth"
 
 -- a line that the program writes of itself
 abbrev pub told : List ℕ → List ℕ
@@ -27,13 +38,23 @@ line_of asked status.Usage = told (codes "usage: fffuu MODE [--chain NAME] [--fa
 line_of asked status.ReadFault = told (codes "read failed")
 line_of asked status.WriteFault = told (codes "write failed")
 line_of asked status.InputTooLong = told (codes "input is longer than 16777216 bytes")
+line_of asked (status.Malformed n) = told (codes "line " ++ decimal n ++ codes ": malformed")
+line_of asked status.NoFilter = told (codes "no filter table")
+line_of asked (status.UndefinedChain n) = told (codes "line " ++ decimal n ++ codes ": undefined chain")
 line_of asked status.NoChain = told (codes "no chain " ++ shown_name asked)
+line_of asked (status.Unsupported n name) = told (codes "line " ++ decimal n ++ codes ": unsupported target " ++ shown_name name)
+line_of asked (status.CallLoop name) = told (codes "call loop through " ++ shown_name name)
+line_of asked (status.Limit k) = told (codes "limit " ++ word_of k)
 line_of asked (status.Later n) = told (codes "line " ++ decimal n ++ codes ": not built yet")
 line_of asked status.Memory = told (codes "out of memory")
 
 -- a status whose line has a number or a name in it, and so takes memory
 abbrev pub IsBuilt : Status → Type 0
+IsBuilt (status.Malformed n) = Unit {0}
+IsBuilt (status.UndefinedChain n) = Unit {0}
 IsBuilt status.NoChain = Unit {0}
+IsBuilt (status.Unsupported n name) = Unit {0}
+IsBuilt (status.CallLoop name) = Unit {0}
 IsBuilt (status.Later n) = Unit {0}
 IsBuilt s = ⊥
 

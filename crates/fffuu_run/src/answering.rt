@@ -4,6 +4,7 @@ ghost use Rattle.fffuu_run.specs.Filters.{IsLater, IsUpper, RefusesUpper, form_c
 ghost use Rattle.request.specs.declared.types.Mode.TheVariants as mode;
 
 use crate::Status;
+use crate::checking::check_text;
 use addr_text::{V4, V6};
 use first_path::{FormFault, upper};
 use request::{Mode, Request};
@@ -46,11 +47,24 @@ fn is_same(text: &[u8], word: &[u8]) -> bool
     text == word
 }
 
+// A check of the chain of this name.
+fn check_of(alloc: Global, six: bool, name: &[u8], text: &[u8]) -> Result<Vec<u8>, Status>
+    requires { length text.now ≤ 16777216 }
+    ensures ok { IfOk result (λ written. IsOutput mode.Check six name.now text.now written.items) }
+    ensures refused { IfErr result (λ s. (s ≡ Status.Memory) ⊎ RefusesMode mode.Check six name.now text.now s) }
+{
+    if six {
+        check_text::<V6, 128>(alloc, name, text)
+    } else {
+        check_text::<V4, 32>(alloc, name, text)
+    }
+}
+
 /// The stated output of a request for a text.
 ///
 /// # Errors
 ///
-/// The status of a text that has none, `Later` or `NoChain`, or `Memory`.
+/// The status of a text that has none, from `Malformed` to `Later`, or `Memory`.
 pub fn answer(alloc: Global, request: &Request, text: &[u8]) -> Result<Vec<u8>, Status>
     requires { length text.now ≤ 16777216 }
     ensures ok { IfOk result (λ written. IsAnswer request.now text.now written.items) }
@@ -58,6 +72,7 @@ pub fn answer(alloc: Global, request: &Request, text: &[u8]) -> Result<Vec<u8>, 
 {
     let name = request.chain.as_slice();
     match request.mode {
+        Mode::Check => check_of(alloc, request.six, name, text),
         Mode::Upper => upper_of(alloc, request.six, name, text),
     }
 }

@@ -2,6 +2,8 @@
 #![tactic(auto)]
 
 mod answering;
+mod checking;
+mod counting;
 mod reading;
 mod status;
 mod telling;
@@ -10,7 +12,8 @@ mod working;
 mod writing;
 
 pub use answering::answer;
-pub use status::Status;
+pub use request::{Mode, Request, SpellFault, one_request, spell};
+pub use status::{Kind, Status};
 pub use top::{run, run_pure};
 
 #[cfg(test)]

@@ -2,10 +2,18 @@ ghost use Rattle.std.specs.Prelude.{◌≡◌};
 ghost use Rattle.fffuu_run.specs.Lines.{code_of};
 ghost use Rattle.fffuu_run.specs.declared.status.Status.TheVariants.{Memory};
 
+use match_expr::Bytes;
 use std::alloc::AllocError;
 
-/// How a run ends.
+/// What is limited.
 #[derive(Clone, Copy, Debug, PartialEq, Eq)]
+pub enum Kind {
+    /// The chains on a call path: at most 256.
+    Depth,
+}
+
+/// How a run ends.
+#[derive(Debug, Drop)]
 pub enum Status {
     /// The answer was written.
     Ok,
@@ -22,8 +30,26 @@ pub enum Status {
     /// The input has more than 16,777,216 bytes.
     InputTooLong,
 
-    /// The text has no chain of the asked name.
+    /// This line, from 1, is the first outside the grammar; the number of lines plus one where a table is open at the end.
+    Malformed { line: u32 },
+
+    /// The text has no table filter.
+    NoFilter,
+
+    /// This line is the first rule line of a chain that isn't declared.
+    UndefinedChain { line: u32 },
+
+    /// No chain of the asked name has a policy.
     NoChain,
+
+    /// The least line of a rule in the reach of the asked chain whose target isn't supported, and the target's name.
+    Unsupported { line: u32, name: Bytes },
+
+    /// The first declared chain in reach that calls itself over some path.
+    CallLoop { name: Bytes },
+
+    /// The number of this kind is past its limit.
+    Limit { kind: Kind },
 
     /// This line, from 1, is the first that the mode can't read yet.
     Later { line: u32 },
@@ -43,7 +69,13 @@ impl Status {
             Status::ReadFault => 2,
             Status::WriteFault => 3,
             Status::InputTooLong => 4,
+            Status::Malformed { .. } => 5,
+            Status::NoFilter => 6,
+            Status::UndefinedChain { .. } => 7,
             Status::NoChain => 8,
+            Status::Unsupported { .. } => 9,
+            Status::CallLoop { .. } => 10,
+            Status::Limit { .. } => 11,
             Status::Memory => 12,
             Status::Later { .. } => 13,
         }

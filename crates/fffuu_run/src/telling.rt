@@ -4,6 +4,7 @@ ghost use Rattle.fffuu_run.specs.Lines.{IsBuilt, line_of, text_of, told};
 ghost use Rattle.fffuu_run.specs.Runs.{IsReported, WritesLine};
 
 use crate::Status;
+use crate::status::Kind;
 use crate::writing::write_all;
 use fw_io::Sink;
 use fw_text::shown;
@@ -69,11 +70,26 @@ fn line_for(alloc: Global, asked: &[u8], status: &Status) -> Result<Line, AllocE
         Status::ReadFault => b"fffuu: read failed\n",
         Status::WriteFault => b"fffuu: write failed\n",
         Status::InputTooLong => b"fffuu: input is longer than 16777216 bytes\n",
+        Status::NoFilter => b"fffuu: no filter table\n",
+        Status::Limit { kind: Kind::Depth } => b"fffuu: limit depth\n",
         Status::Memory => OUT_OF_MEMORY,
+        Status::Malformed { line } => {
+            return built(alloc, &numbered(alloc, *line, ": malformed")?);
+        }
+        Status::UndefinedChain { line } => {
+            return built(alloc, &numbered(alloc, *line, ": undefined chain")?);
+        }
         Status::Later { line } => {
             return built(alloc, &numbered(alloc, *line, ": not built yet")?);
         }
         Status::NoChain => return named(alloc, b"no chain ", asked),
+        Status::Unsupported { line, name } => {
+            let front = numbered(alloc, *line, ": unsupported target ")?;
+            return named(alloc, &front, name.as_slice());
+        }
+        Status::CallLoop { name } => {
+            return named(alloc, b"call loop through ", name.as_slice());
+        }
     };
     Ok(Line::Fixed(fixed))
 }

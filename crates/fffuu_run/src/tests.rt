@@ -103,15 +103,26 @@ fn a_target_that_is_not_built_yet_is_told_with_its_line(rt: HostRuntime) -> Resu
 }
 
 #[test]
-fn a_chain_that_is_not_there_is_told_by_its_shown_name(rt: HostRuntime) -> Result<(), Fail> {
-    let end = run_in_pieces(rt.alloc(), &["upper", "--chain", "a b"], FILTER, &[], &[])?;
-    assert_eq!(rt; end.status.code(), 8);
+fn a_check_counts_the_whole_table(rt: HostRuntime) -> Result<(), Fail> {
+    let input = b"*filter\n:FORWARD DROP [0:0]\n:C - [0:0]\n-A C -m socket -j ACCEPT\nCOMMIT\n";
+    let end = run_in_pieces(rt.alloc(), &["check"], input, &[], &[])?;
+    assert_eq!(rt; end.status.code(), 0);
+    assert_eq!(rt;
+        end.out.held(),
+        b"ok chains 2 rules 1 unknown 1\n".as_slice()
+    );
+    Ok(())
+}
+
+#[test]
+fn a_name_with_a_space_is_spelled_in_the_line(rt: HostRuntime) -> Result<(), Fail> {
+    let input = b"*filter\n:FORWARD DROP [0:0]\n-A FORWARD -j \"a b\"\nCOMMIT\n";
+    let end = run_in_pieces(rt.alloc(), &["check"], input, &[], &[])?;
+    assert_eq!(rt; end.status.code(), 9);
     assert_eq!(rt; end.out.held(), b"".as_slice());
     assert_eq!(rt;
         end.err.held(),
-        b"fffuu: no chain hex:612062
-"
-            .as_slice()
+        b"fffuu: line 3: unsupported target hex:612062\n".as_slice()
     );
     Ok(())
 }

@@ -78,7 +78,7 @@ options :
 unfolding fffuu faults_in rows_in parts_in clap_on_literals
 options = (refl, refl, refl, refl, refl, refl, refl)
 
-request_of_both_options : spelled_by (typed (codes "--chain A upper --family=6")) ≡ Some (record { mode = mode.Upper; chain = codes "A"; six = true })
+request_of_both_options : spelled_by (typed (codes "--chain A check --family=6")) ≡ Some (record { mode = mode.Check; chain = codes "A"; six = true })
 unfolding fffuu faults_in rows_in parts_in asked_by spelled_by clap_on_literals
 request_of_both_options = refl
 
@@ -87,8 +87,8 @@ unfolding fffuu faults_in rows_in parts_in asked_by spelled_by clap_on_literals
 request_without_options = refl
 
 -- no request: an argument, a side, a family of another name, a mode of another name
-no_requests : list_all (λ line. not (is_some (spelled_by (typed line)))) (codes "upper x" ∷ codes "upper " ∷ codes "upper -"
-    ∷ codes "upper --side lower" ∷ codes "upper --side upper" ∷ codes "upper --side=" ∷ codes "upper --family 5" ∷ codes "upper --family="
-    ∷ codes "help" ∷ codes "-- --chain X" ∷ codes " x" ∷ codes "Upper" ∷ codes "check" ∷ []) ≡ true
+no_requests : list_all (λ line. not (is_some (spelled_by (typed line)))) (codes "check x" ∷ codes "upper " ∷ codes "upper -"
+    ∷ codes "upper --side lower" ∷ codes "check --side upper" ∷ codes "check --side=" ∷ codes "check --family 5" ∷ codes "check --family="
+    ∷ codes "help" ∷ codes "-- --chain X" ∷ codes " x" ∷ codes "Check" ∷ []) ≡ true
 unfolding fffuu faults_in rows_in parts_in asked_by spelled_by clap_on_literals
 no_requests = refl

@@ -31,7 +31,8 @@ alone_of mode parts = if is_some parts.side || not (length parts.args == 0) then
 -- the mode of this name with its arguments, a row for each mode
 abbrev pub mode_of : Text → Parts → Option Mode
 mode_of name parts =
-    if bytes_eq name (codes "upper") then alone_of mode.Upper parts
+    if bytes_eq name (codes "check") then alone_of mode.Check parts
+    else if bytes_eq name (codes "upper") then alone_of mode.Upper parts
     else None
 
 -- whether addresses are IPv6 ones, by the family's text: IPv4 ones where none is given

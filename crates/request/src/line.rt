@@ -59,7 +59,9 @@ fn alone(mode: Mode, line: &Line<'_>) -> Option<Mode>
 pub fn mode(name: &str, line: &Line<'_>) -> Option<Mode>
     ensures { result ≡ mode_of name.now (line_parts line.now) }
 {
-    if name == "upper" {
+    if name == "check" {
+        alone(Mode::Check, line)
+    } else if name == "upper" {
         alone(Mode::Upper, line)
     } else {
         None

@@ -12,9 +12,9 @@ fn words_of(alloc: Global, texts: &[&str]) -> Result<Vec<String>, AllocError> {
 
 #[test]
 fn options_stand_anywhere(rt: HostRuntime) -> Result<(), Fail> {
-    let words = words_of(rt.alloc(), &["--chain", "A", "upper", "--family=6"])?;
+    let words = words_of(rt.alloc(), &["--chain", "A", "check", "--family=6"])?;
     let request = spell(rt.alloc(), &words)?;
-    assert!(rt; request.mode == Mode::Upper);
+    assert!(rt; request.mode == Mode::Check);
     assert_eq!(rt; request.chain.as_slice(), b"A".as_slice());
     assert!(rt; request.six);
     one_request(&words);
@@ -26,7 +26,7 @@ fn other_words_are_refused(rt: HostRuntime) -> Result<(), Fail> {
     let none: &[&str] = &[];
     let cases: [&[&str]; 5] = [
         none,
-        &["upper", "x"],
+        &["check", "x"],
         &["upper", "--side", "lower"],
         &["upper", "--chain", "A", "--chain", "A"],
         &["upper", "-x"],

@@ -8,6 +8,8 @@ use thiserror::Error;
 /// What is asked of a filter.
 #[derive(Clone, Copy, Debug, PartialEq, Eq)]
 pub enum Mode {
+    /// Whether the calls of a chain end, and how large the table is.
+    Check,
     /// A filter that accepts what a chain may accept.
     Upper,
 }
