@@ -5,6 +5,7 @@ the sample dumps, and addresses against the platform's own parser.
     python3 tests/program.py PROGRAM
 
 Prints each case that disagrees and a last line 'N passed, M failed'; the exit status is 1 where one failed."""
+import glob
 import ipaddress
 import os
 import random
@@ -171,6 +172,13 @@ def samples():
     for name, words in [("prefixes", ["upper"]), ("prefixes6", ["upper", "--family", "6"])]:
         with open(f"{TOP}/samples/{name}.rules", "rb") as given, open(f"{TOP}/samples/{name}.upper", "rb") as kept:
             check(f"sample {name}", told(run(words, given.read())), (0, kept.read(), b""))
+    for path in sorted(glob.glob(f"{TOP}/samples/*.rules")):
+        with open(path, "rb") as given:
+            text = given.read()
+        table = text[text.index(b"*filter\n"):].split(b"\nCOMMIT")[0].splitlines()
+        chains, rules = (sum(line.startswith(front) for line in table) for front in (b":", b"-A "))
+        words = ["check", "--family", "6" if path.endswith("6.rules") else "4"]
+        check(f"counts of {path}", run(words, text).stdout.split()[:5], f"ok chains {chains} rules {rules}".encode().split())
 
 
 def spelled(family, rng):
