@@ -94,3 +94,27 @@ fn the_first_simple_rule_answers(rt: HostRuntime) -> Result<(), Fail> {
     assert_eq!(rt; first(simple.as_slice(), &p), None);
     Ok(())
 }
+
+#[test]
+fn a_region_without_a_drop_of_tcp_is_the_other_protocols_in_one_cube(
+    rt: HostRuntime,
+) -> Result<(), Fail> {
+    let alloc = rt.alloc();
+    let mut region = whole::<32>(alloc)?;
+    region.state = 2;
+    let mut tcp = whole::<32>(alloc)?;
+    tcp.proto = Set::range(alloc, 6, 6)?;
+    let left = region.minus(alloc, &tcp)?;
+    let left = left.as_slice();
+    assert_eq!(rt; left.len(), 1);
+    let others = [Range { lo: 0, hi: 5 }, Range { lo: 7, hi: 255 }];
+    assert!(rt; left[0].proto.ranges() == others.as_slice());
+    assert_eq!(rt; left[0].state, 2);
+    assert!(rt; left[0].and(alloc, &tcp)?.is_none());
+    let Some(common) = region.and(alloc, &tcp)? else {
+        panic!(rt; "nothing in common");
+    };
+    assert!(rt; common.proto.ranges() == [Range { lo: 6, hi: 6 }].as_slice());
+    assert_eq!(rt; common.state, 2);
+    Ok(())
+}
