@@ -9,3 +9,4 @@ pub mod ByteLemmas
 pub mod StateLemmas
 pub mod TakeLemmas
 pub mod ReadLemmas
+pub mod SomeKind

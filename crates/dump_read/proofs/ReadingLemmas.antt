@@ -49,7 +49,7 @@ module _ (W : ℕ) (Reads : Text → ℕ → Type 0) where
       }
 
   -- what stands before the first rule of a chain that isn't declared
-  abbrev AllDeclared : List Declared → List (Placed W) → Type 0
+  abbrev pub AllDeclared : List Declared → List (Placed W) → Type 0
   AllDeclared chains rules = AllByRecursion (λ (placed : Placed W). is_declared W Reads chains placed ≡ true) rules
 
 module _ {W : ℕ} where

@@ -28,6 +28,11 @@ module _ (W : ℕ) (Reads : Text → ℕ → Type 0) where
     pub malformed_undefined : (m n : ℕ) → IsMalformed W Reads text m → IsUndefinedLine W Reads text n → ⊥
     pub no_filter_undefined : (n : ℕ) → HasNoFilter W Reads text → IsUndefinedLine W Reads text n → ⊥
 
+  -- no text is none of these. Whether a text is one of them is asked as a double negation, since to decide it takes a reader, and the reader needs memory
+  abbrev pub IsOneOfThem : Text → Type 0
+  IsOneOfThem text = ((dump : Dump (Prim_ W)) → IsDump W Reads text dump → ⊥) → ((n : ℕ) → IsMalformed W Reads text n → ⊥)
+      → (HasNoFilter W Reads text → ⊥) → ((n : ℕ) → IsUndefinedLine W Reads text n → ⊥) → ⊥
+
   -- lines that fit still do where lines at their end are left out
   abbrev pub FrontsFit : Type 0
   FrontsFit = (front more : List Text) → Fit W Reads (front ++ more) → Fit W Reads front

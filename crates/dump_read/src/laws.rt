@@ -1,5 +1,5 @@
 ghost use Rattle.std.specs.Prelude.{◌≤◌};
-ghost use Rattle.dump_read.specs.Laws.{ExcludeEachOther, FrontsFit, HasOneDump, HasOneMalformedLine, HasOneUndefinedLine};
+ghost use Rattle.dump_read.specs.Laws.{ExcludeEachOther, FrontsFit, HasOneDump, HasOneMalformedLine, HasOneUndefinedLine, IsOneOfThem};
 
 use addr_text::Family;
 
@@ -19,6 +19,15 @@ pub fn one_answer<F: Family<W>, const W: u32>(text: &[u8])
 pub fn one_kind<F: Family<W>, const W: u32>(text: &[u8])
     requires { W ≤ 128 }
     ensures { ExcludeEachOther W F.Reads text.now }
+{
+    let _ = text;
+}
+
+/// That no text is none of these: a dump, malformed, without a filter, with a rule of a chain that isn't declared. With
+/// `one_kind` it is exactly one. The call itself does nothing.
+pub fn some_kind<F: Family<W>, const W: u32>(text: &[u8])
+    requires { W ≤ 128 }
+    ensures { IsOneOfThem W F.Reads text.now }
 {
     let _ = text;
 }
