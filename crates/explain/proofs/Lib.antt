@@ -1,0 +1,10 @@
+pub mod Order
+pub mod Literals
+pub mod Turning
+pub mod Following
+pub mod Leading
+pub mod ReachLemmas
+pub mod ViewLemmas
+pub mod ChoosingLemmas
+pub mod Going
+pub mod ExplainLemmas

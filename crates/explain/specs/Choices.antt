@@ -1,0 +1,49 @@
+-- The walk that is chosen to explain a verdict, and the places that it takes to hold.
+use Rattle.std.specs.Prelude.{ℕ, ◌+◌, ◌≡◌, Bool, true, List, [], ◌∷◌, ◌++◌, Some, slice_get}
+use Rattle.match_expr.specs.Meaning.{eval_of}
+use Rattle.fw_rule.specs.declared.rule.Verdict.{Verdict}
+use Rattle.fw_rule.specs.declared.rule.Lit.{Lit}
+use Rattle.fw_rule.specs.declared.rule.Rule.{Rule}
+use Rattle.fw_rule.specs.declared.rule.Chain.{Chain}
+use Rattle.fw_rule.specs.declared.rule.Dump.{Dump}
+use Rattle.fw_rule.specs.declared.rule.Place.{Place}
+use Rattle.fw_rule.specs.Walk.{Path, Meaning, State, At, Ended, Frame, act, step, after, known_of, doubt_in}
+
+-- the places of the unknown literals at a path, in order, the first of the literals with the number `l`
+abbrev pub unknown_places : {P : Type 0} → Path → ℕ → List (Lit P) → List Place
+unknown_places path l [] = []
+unknown_places path l (Lit.Known neg expr ∷ lits) = unknown_places path (l + 1) lits
+unknown_places path l (Lit.Unknown text ∷ lits) = record { steps = path; lit = l } ∷ unknown_places path (l + 1) lits
+
+module _ {P Packet : Type 0} (holds : P → Packet → Bool) (dump : Dump P) (p : Packet) where
+  -- the verdict can be reached from the state: some meaning's walk from there has it
+  abbrev pub Can : State → Verdict → Type 0
+  Can s v = (m : Meaning) × (k : ℕ) × (after holds dump p m k s ≡ Some (Ended v))
+
+  -- before the rule `next` of a chain there is a choice where the known literals of the rule hold and it has an unknown one
+  pub record HasChoice (chain next : ℕ) (here : Chain P) (rule : Rule P) : Type 0 where
+    pub at_chain : slice_get dump.chains chain ≡ Some here
+    pub at_rule : slice_get here.rules next ≡ Some rule
+    pub known : eval_of (λ x. holds x p) (known_of rule) ≡ true
+    pub doubtful : doubt_in rule.lits ≡ true
+
+  -- elsewhere there is none: the step is the same under each meaning
+  abbrev pub NoChoice : State → Type 0
+  NoChoice (At chain next path frames) = (here : Chain P) (rule : Rule P) → HasChoice chain next here rule → ⊥
+  NoChoice (Ended v) = Unit {0}
+
+  module _ (Passed Taken : State → Type 0) (v : Verdict) where
+    -- a walk to the verdict that decides at each choice, with the places of all unknown literals of the rules that it took as matching, in order of visit.
+    -- Of the state behind the rule holds `Passed` where the rule was passed over, and `Taken` where it was taken
+    pub data Goes : State → List Place → Type 0 where
+      Arrives : Goes (Ended v) []
+      Steps : {s t : State} {places : List Place} → NoChoice s → step holds dump p [] s ≡ Some t → Goes t places → Goes s places
+      Passes : {chain next : ℕ} {path : Path} {frames : List Frame} {places : List Place} (here : Chain P) (rule : Rule P) → HasChoice chain next here rule →
+          Passed (At chain (next + 1) path frames) → Goes (At chain (next + 1) path frames) places → Goes (At chain next path frames) places
+      Takes : {chain next : ℕ} {path : Path} {frames : List Frame} {t : State} {places : List Place} (here : Chain P) (rule : Rule P) → HasChoice chain next here rule →
+          Taken (At chain (next + 1) path frames) → act here.policy chain next path frames rule.action ≡ Some t → Goes t places →
+          Goes (At chain next path frames) (unknown_places (path ++ record { chain = chain; rule = next } ∷ []) 0 rule.lits ++ places)
+
+  -- the chosen walk from a state passes a rule over where the verdict can still be reached behind it, and else takes it
+  abbrev pub Explains : Verdict → State → List Place → Type 0
+  Explains v = Goes (λ t. Can t v) (λ t. ¬ Can t v) v
