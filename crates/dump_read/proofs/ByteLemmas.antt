@@ -10,6 +10,7 @@ use Rattle.dump_token.proofs.Once.{BeginsFull, spelled_full}
 use Rattle.dump_grammar.specs.Lines.{Text, is_passed_over}
 use Rattle.dump_grammar.specs.Tables.{IsCommit}
 use Rattle.dump_read.specs.Parts.{FollowsBlanks}
+use Rattle.dump_read.proofs.Basics.{clash, tail_same}
 use Rattle.dump_read.proofs.NameLemmas.{same_bytes, bytes_same}
 
 no_bytes : BeginsFull [] → ⊥
@@ -53,12 +54,9 @@ over_some line rest b bs (gap, (whole, blanks, begins)) e =
 pub over_none : (line rest : Text) → FollowsBlanks line rest → rest ≡ [] → true ≡ is_passed_over line
 over_none line rest (gap, (whole, blanks, begins)) e = ap is_passed_over (sym e) ∙ sym (over_blanks gap rest blanks) ∙ ap is_passed_over (sym whole)
 
-both : (b : Bool) → b ≡ true → b ≡ false → ⊥
-both b p q = cc
-
 blanks_end : (gap rest : Text) → AreBlanks (gap ++ rest) → BeginsNoBlank rest → rest ≡ []
 blanks_end [] [] h n = refl
-blanks_end [] (b ∷ rest) h n = absurd (both (is_blank b) h.0 n)
+blanks_end [] (b ∷ rest) h n = absurd (clash (is_blank b) h.0 n)
 blanks_end (x ∷ gap) rest h n = blanks_end gap rest h.1 n
 
 -- a line is blank where nothing is left past the blanks in front
@@ -68,17 +66,11 @@ blank_of line rest (gap, (whole, blanks, begins)) e = subst AreBlanks (sym (whol
 pub blank_rest : (line rest : Text) → FollowsBlanks line rest → AreBlanks line → rest ≡ []
 blank_rest line rest (gap, (whole, blanks, begins)) h = blanks_end gap rest (subst AreBlanks whole h) begins
 
-heads : (a b : ℕ) (xs ys : Text) → a ∷ xs ≡ b ∷ ys → a ≡ b
-heads a b xs ys e = cc
-
-tails : (a b : ℕ) (xs ys : Text) → a ∷ xs ≡ b ∷ ys → xs ≡ ys
-tails a b xs ys e = cc
-
 same_rest : (g h a b : Text) → AreBlanks g → AreBlanks h → BeginsNoBlank a → BeginsNoBlank b → g ++ a ≡ h ++ b → a ≡ b
 same_rest [] [] a b p q m n e = e
-same_rest [] (y ∷ h) a b p q m n e = absurd (both (is_blank y) q.0 (subst BeginsNoBlank e m))
-same_rest (x ∷ g) [] a b p q m n e = absurd (both (is_blank x) p.0 (subst BeginsNoBlank (sym e) n))
-same_rest (x ∷ g) (y ∷ h) a b p q m n e = same_rest g h a b p.1 q.1 m n (tails x y (g ++ a) (h ++ b) e)
+same_rest [] (y ∷ h) a b p q m n e = absurd (clash (is_blank y) q.0 (subst BeginsNoBlank e m))
+same_rest (x ∷ g) [] a b p q m n e = absurd (clash (is_blank x) p.0 (subst BeginsNoBlank (sym e) n))
+same_rest (x ∷ g) (y ∷ h) a b p q m n e = same_rest g h a b p.1 q.1 m n (tail_same x y (g ++ a) (h ++ b) e)
 
 pub commit_of : (line rest after : Text) → FollowsBlanks line rest → rest ≡ codes "COMMIT" ++ after → AreBlanks after → IsCommit line
 commit_of line rest after (gap, (whole, blanks, begins)) e h =
@@ -113,7 +105,7 @@ front_left rest word after e = ap (drop (length word)) e ∙ drop-append_seam wo
 pub front_differs : (rest word after : Text) → bytes_eq (take (length word) rest) word ≡ false → rest ≡ word ++ after → ⊥
 front_differs rest word after h e =
     let same : bytes_eq (take (length word) rest) word ≡ true = bytes_same (take (length word) rest) word (ap (take (length word)) e ∙ take-append_seam word after) in
-    both (bytes_eq (take (length word) rest) word) same h
+    clash (bytes_eq (take (length word) rest) word) same h
 
 pub first_got : (rest : Text) (b : ℕ) → 0 < length rest → b ≡ get_or rest 0 b → rest ≡ b ∷ drop 1 rest
 first_got [] b lt e = absurd (omega arith)

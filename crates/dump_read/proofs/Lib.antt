@@ -1,3 +1,4 @@
+pub mod Basics
 pub mod LineLemmas
 pub mod NameLemmas
 pub mod StepLemmas

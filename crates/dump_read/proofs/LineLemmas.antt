@@ -1,36 +1,27 @@
 -- A text is divided into lines in one way; lines keep their numbers where others follow.
 use Rattle.std.proofs.Common.{ℕ, suc, ◌+◌, ◌≡◌, ◌≢◌, ◌⊎◌, inl, inr, List, [], ◌∷◌, ◌++◌, length, refl, sym, ap, subst, ◌∙◌, arith, add-zero}
 use Rattle.dump_grammar.specs.Lines.{Text, IsLine, AreLines, numbered_from}
+use Rattle.dump_read.proofs.Basics.{head_same, tail_same, no_cons}
 
 no_feed : (x : List ℕ) (r : List ℕ) → IsLine (x ++ 10 ∷ r) → ⊥
 no_feed [] r h = h.0 refl
 no_feed (b ∷ x) r h = no_feed x r h.1
 
-tails : (a b : ℕ) (xs ys : List ℕ) → a ∷ xs ≡ b ∷ ys → xs ≡ ys
-tails a b xs ys e = cc
-
-heads : (a b : ℕ) (xs ys : List ℕ) → a ∷ xs ≡ b ∷ ys → a ≡ b
-heads a b xs ys e = cc
-
 -- lines that end at the first line feed of one text are one
 same_line : (x y r s : List ℕ) → IsLine x → IsLine y → x ++ 10 ∷ r ≡ y ++ 10 ∷ s → (x ≡ y) × (r ≡ s)
-same_line [] [] r s p q e = (refl, tails 10 10 r s e)
-same_line [] (b ∷ y) r s p q e = absurd (q.0 (sym (heads 10 b r (y ++ 10 ∷ s) e)))
-same_line (a ∷ x) [] r s p q e = absurd (p.0 (heads a 10 (x ++ 10 ∷ r) s e))
+same_line [] [] r s p q e = (refl, tail_same 10 10 r s e)
+same_line [] (b ∷ y) r s p q e = absurd (q.0 (sym (head_same 10 b r (y ++ 10 ∷ s) e)))
+same_line (a ∷ x) [] r s p q e = absurd (p.0 (head_same a 10 (x ++ 10 ∷ r) s e))
 same_line (a ∷ x) (b ∷ y) r s p q e =
-    let first : a ≡ b = heads a b (x ++ 10 ∷ r) (y ++ 10 ∷ s) e in
-    let more : (x ≡ y) × (r ≡ s) = same_line x y r s p.1 q.1 (tails a b (x ++ 10 ∷ r) (y ++ 10 ∷ s) e) in
+    let first : a ≡ b = head_same a b (x ++ 10 ∷ r) (y ++ 10 ∷ s) e in
+    let more : (x ≡ y) × (r ≡ s) = same_line x y r s p.1 q.1 (tail_same a b (x ++ 10 ∷ r) (y ++ 10 ∷ s) e) in
     (λ i. first i ∷ more.0 i, more.1)
-
-pub no_feed_empty : (x r : List ℕ) → x ++ 10 ∷ r ≡ [] → ⊥
-no_feed_empty [] r e = cc
-no_feed_empty (a ∷ x) r e = cc
 
 pub one_lines : (a b : List Text) (text : Text) → AreLines a text → AreLines b text → a ≡ b
 one_lines [] [] text p q = refl
-one_lines [] (y ∷ b) text p (l, inl w) = absurd (no_feed_empty y w.0 (sym w.1 ∙ p))
+one_lines [] (y ∷ b) text p (l, inl w) = absurd (no_cons y 10 w.0 (sym w.1 ∙ p))
 one_lines [] (y ∷ b) text p (l, inr w) = absurd (w.1 (sym w.0 ∙ p))
-one_lines (x ∷ a) [] text (k, inl v) q = absurd (no_feed_empty x v.0 (sym v.1 ∙ q))
+one_lines (x ∷ a) [] text (k, inl v) q = absurd (no_cons x 10 v.0 (sym v.1 ∙ q))
 one_lines (x ∷ a) [] text (k, inr v) q = absurd (v.1 (sym v.0 ∙ q))
 one_lines (x ∷ a) (y ∷ b) text (k, inl v) (l, inl w) =
     let same = same_line x y v.0 w.0 k l (sym v.1 ∙ w.1) in

@@ -22,9 +22,10 @@ use Rattle.dump_read.specs.declared.state.Part.{Part}
 use Rattle.dump_read.specs.declared.state.Reading.{Reading}
 use Rattle.dump_read.specs.Parts.{BeginsWithLine}
 use Rattle.dump_read.specs.Positions.{Filter, Position, Opens, Adds, Moves, Step, Leads}
-use Rattle.dump_read.specs.States.{AreWritable, IsFirstUndeclared, Shows, EndsWith, Answers}
+use Rattle.dump_read.specs.States.{AreWritable, IsFirstUndeclared, Shows, EndsWith, EndsAs}
 use Rattle.dump_read.specs.Answers.{IsFaultOf, IsPrintableDump}
-use Rattle.dump_read.proofs.LineLemmas.{lines_of_text, no_feed_empty}
+use Rattle.dump_read.proofs.Basics.{no_cons}
+use Rattle.dump_read.proofs.LineLemmas.{lines_of_text}
 use Rattle.dump_read.proofs.FitLemmas.{start, join, bad_of, bad_at_end}
 use Rattle.dump_read.proofs.ReadingLemmas.{has_filter_of, no_filter_of}
 
@@ -116,7 +117,7 @@ module _ (W : ℕ) (Reads : Text → ℕ → Type 0) where
 
   no_more : (more : List Text) (rest : Text) → rest ≡ [] → AreLines more rest → more ≡ []
   no_more [] rest e h = refl
-  no_more (line ∷ more) rest e (is, inl w) = absurd (no_feed_empty line w.0 (sym w.1 ∙ e))
+  no_more (line ∷ more) rest e (is, inl w) = absurd (no_cons line 10 w.0 (sym w.1 ∙ e))
   no_more (line ∷ more) rest e (is, inr w) = absurd (w.1 (sym w.0 ∙ e))
 
   pub read_more : (old new : Reading W) (text rest line after : Text) (lines : ℕ) → IsRead old text rest lines → BeginsWithLine rest line after → length after < length rest →
@@ -190,14 +191,14 @@ module _ (W : ℕ) (Reads : Text → ℕ → Type 0) where
       All-from_recursion (λ (here : Chain (Prim_ W)). All (λ (rule : Rule (Prim_ W)). AllByRecursion IsPrintableLiteral rule.lits) here.rules) ((dump_of cs rs).chains) (printable_chains cs rs h)
 
   pub read_printable : (state : Reading W) (text rest : Text) (lines : ℕ) (dump : Dump (Prim_ W)) → IsRead state text rest lines →
-      ((p : Position W) → Shows state p → Answers p dump) → IsPrintableDump dump
+      ((p : Position W) → Shows state p → EndsAs p dump) → IsPrintableDump dump
   read_printable state text rest lines dump r answers =
       let a = answers r.position r.shows in
       subst IsPrintableDump (sym a.dump_is) (printable_of a.chains a.rules a.writable)
 
   -- the whole text is read
   pub read_dump_of : (state : Reading W) (text rest : Text) (lines : ℕ) (dump : Dump (Prim_ W)) → IsRead state text rest lines → rest ≡ [] →
-      ((p : Position W) → Shows state p → Answers p dump) → IsDump W Reads text dump
+      ((p : Position W) → Shows state p → EndsAs p dump) → IsDump W Reads text dump
   read_dump_of state text rest lines dump r e answers =
       let a = answers r.position r.shows in
       let parted = subst (λ (z : List Text). AreLines z text) (append-nil r.done) (r.parts [] e) in
@@ -210,7 +211,7 @@ module _ (W : ℕ) (Reads : Text → ℕ → Type 0) where
       }
 
   pub read_room : (state : Reading W) (text rest : Text) (lines : ℕ) (dump : Dump (Prim_ W)) → IsRead state text rest lines → length text ≤ 16777216 →
-      ((p : Position W) → Shows state p → Answers p dump) → HasRoom dump
+      ((p : Position W) → Shows state p → EndsAs p dump) → HasRoom dump
   read_room state text rest lines dump r small answers =
       let a = answers r.position r.shows in
       let b = leads_size (start W Reads) (numbered_from 1 r.done) r.position r.leads in

@@ -1,5 +1,5 @@
 -- What a text is, by where its lines lead: so it is that in one way.
-use Rattle.std.proofs.Common.{ℕ, ◌≡◌, Bool, true, false, None, Some, Option, List, [], ◌∷◌, ◌++◌, refl, sym, ap, subst, ◌∙◌}
+use Rattle.std.proofs.Common.{ℕ, ◌≡◌, true, false, None, Some, Option, List, [], ◌∷◌, ◌++◌, refl, sym, ap, subst, ◌∙◌}
 use Rattle.std.specs.List.{AllByRecursion, flat_map}
 use Rattle.primitives.specs.declared.prim.Prim_.{Prim_}
 use Rattle.fw_rule.specs.declared.rule.Dump.{Dump}
@@ -12,13 +12,11 @@ use Rattle.dump_grammar.specs.Tables.{lines_of, IsFilterBody, Placed, WellFormed
 use Rattle.dump_grammar.specs.Reads.{dump_of, HasFilter, is_declared, IsDump, IsUndefinedLine, HasNoFilter, IsMalformed}
 use Rattle.dump_read.specs.Positions.{Filter, Position, Leads}
 use Rattle.dump_read.specs.Laws.{HasOneDump, HasOneMalformedLine, HasOneUndefinedLine, ExcludeEachOther}
+use Rattle.dump_read.proofs.Basics.{clash, head_same, tail_same}
 use Rattle.dump_read.proofs.LineLemmas.{one_lines}
 use Rattle.dump_read.proofs.StepLemmas.{leads_once}
 use Rattle.dump_read.proofs.TableLemmas.{AreKept, all_kept, kept_left, kept_there, leads_of, tables_of, finds_none, finds_filter, there_found, none_left, body_leads}
 use Rattle.dump_read.proofs.FitLemmas.{start, one_position, one_bad, none_bad}
-
-tests : (b : Bool) → b ≡ true → b ≡ false → ⊥
-tests b p q = cc
 
 module _ (W : ℕ) (Reads : Text → ℕ → Type 0) where
   pub has_filter_of : (text : Text) (lines : List Text) (chains : List Declared) (rules : List (Placed W)) → AreLines lines text →
@@ -53,12 +51,6 @@ module _ (W : ℕ) (Reads : Text → ℕ → Type 0) where
   AllDeclared chains rules = AllByRecursion (λ (placed : Placed W). is_declared W Reads chains placed ≡ true) rules
 
 module _ {W : ℕ} where
-  placed_head : (p q : Placed W) (after more : List (Placed W)) → p ∷ after ≡ q ∷ more → p ≡ q
-  placed_head p q after more e = cc
-
-  placed_tail : (p q : Placed W) (after more : List (Placed W)) → p ∷ after ≡ q ∷ more → after ≡ more
-  placed_tail p q after more e = cc
-
   some_same : (f g : Filter W) → Some f ≡ Some g → f ≡ g
   some_same f g e = cc
 
@@ -123,16 +115,16 @@ module _ (W : ℕ) (Reads : Text → ℕ → Type 0)
   -- the first rule of a chain that isn't declared is one
   first_once : (chains : List Declared) (before other : List (Placed W)) (p q : Placed W) (after more : List (Placed W)) → before ++ p ∷ after ≡ other ++ q ∷ more →
       AllDeclared W Reads chains before → AllDeclared W Reads chains other → is_declared W Reads chains p ≡ false → is_declared W Reads chains q ≡ false → p ≡ q
-  first_once chains [] [] p q after more e a b x y = placed_head p q after more e
+  first_once chains [] [] p q after more e a b x y = head_same p q after more e
   first_once chains [] (o ∷ other) p q after more e a b x y =
-      absurd (tests (is_declared W Reads chains p) (ap (is_declared W Reads chains) (placed_head p o after (other ++ q ∷ more) e) ∙ b.0) x)
+      absurd (clash (is_declared W Reads chains p) (ap (is_declared W Reads chains) (head_same p o after (other ++ q ∷ more) e) ∙ b.0) x)
   first_once chains (o ∷ before) [] p q after more e a b x y =
-      absurd (tests (is_declared W Reads chains q) (ap (is_declared W Reads chains) (sym (placed_head o q (before ++ p ∷ after) more e)) ∙ a.0) y)
+      absurd (clash (is_declared W Reads chains q) (ap (is_declared W Reads chains) (sym (head_same o q (before ++ p ∷ after) more e)) ∙ a.0) y)
   first_once chains (o ∷ before) (u ∷ other) p q after more e a b x y =
-      first_once chains before other p q after more (placed_tail o u (before ++ p ∷ after) (other ++ q ∷ more) e) a.1 b.1 x y
+      first_once chains before other p q after more (tail_same o u (before ++ p ∷ after) (other ++ q ∷ more) e) a.1 b.1 x y
 
   not_all : (chains : List Declared) (before : List (Placed W)) (p : Placed W) (after : List (Placed W)) → AllDeclared W Reads chains (before ++ p ∷ after) → is_declared W Reads chains p ≡ false → ⊥
-  not_all chains [] p after a x = tests (is_declared W Reads chains p) a.0 x
+  not_all chains [] p after a x = clash (is_declared W Reads chains p) a.0 x
   not_all chains (o ∷ before) p after a x = not_all chains before p after a.1 x
 
   pub one_dump_of : (text : Text) → HasOneDump W Reads text

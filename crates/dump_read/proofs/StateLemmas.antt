@@ -15,11 +15,9 @@ use Rattle.dump_grammar.specs.Tables.{Placed, names_of}
 use Rattle.dump_grammar.specs.Reads.{rule_of, is_in}
 use Rattle.dump_read.specs.declared.state.Reading.{Reading}
 use Rattle.dump_read.specs.States.{has_any, with_rule, IsWritable, IsFirstUndeclared, Keeps}
+use Rattle.dump_read.proofs.Basics.{clash, no_cons}
 use Rattle.dump_read.proofs.NameLemmas.{and_left, and_right, or_left, or_right, not_true, same_bytes, bytes_flip, differ_push}
 use Rattle.dump_read.proofs.TableLemmas.{names_push}
-
-pub both : (b : Bool) → b ≡ true → b ≡ false → ⊥
-both b p q = cc
 
 -- a search, step by step
 first_at : (f : Text → Bool) (x : Text) (xs : List Text) (k : ℕ) → position f (x ∷ xs) ≡ Some k →
@@ -126,15 +124,11 @@ module _ {W : ℕ} where
 
   pub none_ruled : (b : Bool) (rs : List (Placed W)) → b ≡ has_any rs → b ≡ false → rs ≡ []
   none_ruled b [] e f = refl
-  none_ruled b (r ∷ rs) e f = absurd (both b e f)
-
-  not_nil : (before : List (Placed W)) (p : Placed W) (after : List (Placed W)) → [] ≡ before ++ p ∷ after → ⊥
-  not_nil [] p after e = cc
-  not_nil (b ∷ before) p after e = cc
+  none_ruled b (r ∷ rs) e f = absurd (clash b e f)
 
   none_undeclared : (cs ds : List Declared) (rs : List (Placed W)) (u : Option ℕ) → rs ≡ [] → IsFirstUndeclared cs rs u → IsFirstUndeclared ds rs u
   none_undeclared cs ds [] None e h = tt
-  none_undeclared cs ds [] (Some n) e (before, p, after, h) = absurd (not_nil before p after h.0)
+  none_undeclared cs ds [] (Some n) e (before, p, after, h) = absurd (no_cons before p after (sym h.0))
   none_undeclared cs ds (r ∷ rs) u e h = cc
 
   -- one chain more

@@ -1,5 +1,5 @@
 -- From each position a line leads to one position at most.
-use Rattle.std.proofs.Common.{ℕ, ◌≡◌, inl, inr, Bool, true, false, Option, List, [], ◌∷◌, ◌++◌, map, refl, sym, ap, subst, ◌∙◌, arith, codes}
+use Rattle.std.proofs.Common.{ℕ, ◌≡◌, inl, inr, Option, List, [], ◌∷◌, ◌++◌, map, refl, sym, ap, subst, ◌∙◌, arith, codes}
 use Rattle.dump_token.proofs.Once.{one_list}
 use Rattle.dump_grammar.specs.Lines.{Text, Word, Numbered, is_passed_over, bare, word_of, HasWords}
 use Rattle.dump_grammar.specs.declared.chains.Declared.{Declared}
@@ -8,41 +8,27 @@ use Rattle.dump_grammar.specs.declared.rule.RuleLine.{RuleLine}
 use Rattle.dump_grammar.specs.RuleLines.{IsRuleLine}
 use Rattle.dump_grammar.specs.Tables.{Placed, names_of}
 use Rattle.dump_read.specs.Positions.{Filter, Position, Opens, Adds, Moves, Step, Leads}
+use Rattle.dump_read.proofs.Basics.{clash, head_same, tail_same}
 
 pub one_words : (line : Text) (v w : List Word) → HasWords line v → HasWords line w → v ≡ w
 one_words line v w p q = sym p.2 ∙ ap (map word_of) (one_list 0 p.0 q.0 line p.1 q.1) ∙ q.2
 
-pub word_head : (v w : Word) (vs ws : List Word) → v ∷ vs ≡ w ∷ ws → v ≡ w
-word_head v w vs ws e = cc
-
-word_tail : (v w : Word) (vs ws : List Word) → v ∷ vs ≡ w ∷ ws → vs ≡ ws
-word_tail v w vs ws e = cc
-
-byte_head : (a b : ℕ) (xs ys : Text) → a ∷ xs ≡ b ∷ ys → a ≡ b
-byte_head a b xs ys e = cc
-
-pub byte_tail : (a b : ℕ) (xs ys : Text) → a ∷ xs ≡ b ∷ ys → xs ≡ ys
-byte_tail a b xs ys e = cc
-
 unlike : (a b : ℕ) (xs ys : Text) → a ∷ xs ≡ b ∷ ys → (a ≡ b → ⊥) → ⊥
-unlike a b xs ys e h = h (byte_head a b xs ys e)
-
-tests : (b : Bool) → b ≡ true → b ≡ false → ⊥
-tests b p q = cc
+unlike a b xs ys e h = h (head_same a b xs ys e)
 
 module _ (W : ℕ) (Reads : Text → ℕ → Type 0) where
   -- the line that closes filter declares no chain
   pub close_chain : (words : List Word) (chain : Declared) → words ≡ bare (codes "COMMIT") ∷ [] → IsChainLine words chain → ⊥
   close_chain words chain e is =
-      let f : bare (codes "COMMIT") ≡ bare (58 ∷ chain.name) = word_head (bare (codes "COMMIT")) (bare (58 ∷ chain.name)) [] (bare (policy_text chain.policy) ∷ is.counter) (sym e ∙ is.whole) in
+      let f : bare (codes "COMMIT") ≡ bare (58 ∷ chain.name) = head_same (bare (codes "COMMIT")) (bare (58 ∷ chain.name)) [] (bare (policy_text chain.policy) ∷ is.counter) (sym e ∙ is.whole) in
       unlike 67 58 (codes "OMMIT") chain.name (ap (λ (w : Word). w.text) f) (λ e. omega arith)
 
   close_counter : (more : List Word) (counter : List Word) → bare (codes "COMMIT") ∷ [] ≡ counter ++ (bare (codes "-A") ∷ more) → IsMaybeCounter counter → ⊥
   close_counter more [] f m =
-      let t : codes "COMMIT" ≡ codes "-A" = ap (λ (w : Word). w.text) (word_head (bare (codes "COMMIT")) (bare (codes "-A")) [] more f) in
+      let t : codes "COMMIT" ≡ codes "-A" = ap (λ (w : Word). w.text) (head_same (bare (codes "COMMIT")) (bare (codes "-A")) [] more f) in
       unlike 67 45 (codes "OMMIT") (codes "A") t (λ e. omega arith)
   close_counter more (c ∷ []) f m =
-      let t : [] ≡ bare (codes "-A") ∷ more = word_tail (bare (codes "COMMIT")) c [] (bare (codes "-A") ∷ more) f in
+      let t : [] ≡ bare (codes "-A") ∷ more = tail_same (bare (codes "COMMIT")) c [] (bare (codes "-A") ∷ more) f in
       cc
   close_counter more (c ∷ (d ∷ cs)) f m = m
 
@@ -53,10 +39,10 @@ module _ (W : ℕ) (Reads : Text → ℕ → Type 0) where
   -- no words begin as a chain line and as a rule
   apart : (name : Text) (rest more : List Word) (counter : List Word) → IsMaybeCounter counter → bare (58 ∷ name) ∷ rest ≡ counter ++ (bare (codes "-A") ∷ more) → ⊥
   apart name rest more [] m f =
-      let t : 58 ∷ name ≡ 45 ∷ 65 ∷ [] = ap (λ (w : Word). w.text) (word_head (bare (58 ∷ name)) (bare (codes "-A")) rest more f) in
+      let t : 58 ∷ name ≡ 45 ∷ 65 ∷ [] = ap (λ (w : Word). w.text) (head_same (bare (58 ∷ name)) (bare (codes "-A")) rest more f) in
       unlike 58 45 name (65 ∷ []) t (λ e. omega arith)
   apart name rest more (c ∷ []) m f =
-      let s : 58 ∷ name ≡ c.text = ap (λ (w : Word). w.text) (word_head (bare (58 ∷ name)) c rest (bare (codes "-A") ∷ more) f) in
+      let s : 58 ∷ name ≡ c.text = ap (λ (w : Word). w.text) (head_same (bare (58 ∷ name)) c rest (bare (codes "-A") ∷ more) f) in
       unlike 58 91 name (m.1.packets ++ 58 ∷ (m.1.bytes ++ 93 ∷ [])) (s ∙ m.1.spelled) (λ e. omega arith)
   apart name rest more (c ∷ (d ∷ cs)) m f = m
 
@@ -93,7 +79,7 @@ module _ (W : ℕ) (Reads : Text → ℕ → Type 0)
   moves_once : (p : Position W) (line : Numbered) (q r : Position W) → Moves W Reads p line q → Moves W Reads p line r → q ≡ r
   moves_once (Position.Outside found) line q r a b =
       let e : bare (42 ∷ a.0) ∷ [] ≡ bare (42 ∷ b.0) ∷ [] = one_words line.bytes (bare (42 ∷ a.0) ∷ []) (bare (42 ∷ b.0) ∷ []) a.1.1 b.1.1 in
-      let f : a.0 ≡ b.0 = byte_tail 42 42 a.0 b.0 (ap (λ (w : Word). w.text) (word_head (bare (42 ∷ a.0)) (bare (42 ∷ b.0)) [] [] e)) in
+      let f : a.0 ≡ b.0 = tail_same 42 42 a.0 b.0 (ap (λ (w : Word). w.text) (head_same (bare (42 ∷ a.0)) (bare (42 ∷ b.0)) [] [] e)) in
       opens_once found a.0 b.0 q r f a.1.2 b.1.2
   moves_once (Position.Passing found) line q r (inl a) (inl b) = a.1 ∙ sym b.1
   moves_once (Position.Passing found) line q r (inl a) (inr b) = absurd (b.0 a.0)
@@ -105,8 +91,8 @@ module _ (W : ℕ) (Reads : Text → ℕ → Type 0)
 
   pub step_once : (p : Position W) (line : Numbered) (q r : Position W) → Step W Reads p line q → Step W Reads p line r → q ≡ r
   step_once p line q r (inl a) (inl b) = a.1 ∙ sym b.1
-  step_once p line q r (inl a) (inr b) = absurd (tests (is_passed_over line.bytes) a.0 b.0)
-  step_once p line q r (inr a) (inl b) = absurd (tests (is_passed_over line.bytes) b.0 a.0)
+  step_once p line q r (inl a) (inr b) = absurd (clash (is_passed_over line.bytes) a.0 b.0)
+  step_once p line q r (inr a) (inl b) = absurd (clash (is_passed_over line.bytes) b.0 a.0)
   step_once p line q r (inr a) (inr b) = moves_once p line q r a.1 b.1
 
   pub leads_once : (p : Position W) (lines : List Numbered) (q r : Position W) → Leads W Reads p lines q → Leads W Reads p lines r → q ≡ r

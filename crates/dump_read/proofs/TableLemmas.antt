@@ -11,6 +11,7 @@ use Rattle.dump_grammar.specs.declared.rule.RuleLine.{RuleLine}
 use Rattle.dump_grammar.specs.RuleLines.{IsRuleLine}
 use Rattle.dump_grammar.specs.Tables.{IsCommit, DumpTable, lines_of, IsFilter, Placed, names_of, AreChainLines, AreRuleLines, IsFilterBody, IsTable, AreTables}
 use Rattle.dump_read.specs.Positions.{Filter, Position, Opens, Adds, Moves, Step, Leads}
+use Rattle.dump_read.proofs.Basics.{head_same, tail_same, no_cons}
 use Rattle.dump_read.proofs.NameLemmas.{differ_push, differ_middle}
 use Rattle.dump_read.proofs.StepLemmas.{leads_append}
 
@@ -26,9 +27,6 @@ NoFilter tables = AllByRecursion (λ (t : DumpTable). IsFilter t → ⊥) tables
 
 abbrev pub HasOneFilter : List DumpTable → Type 0
 HasOneFilter tables = (before after : List DumpTable) (t : DumpTable) → tables ≡ before ++ t ∷ after → IsFilter t → NoFilter (before ++ after)
-
-tests : (b : Bool) → b ≡ true → b ≡ false → ⊥
-tests b p q = cc
 
 pub names_push : (cs : List Declared) (c : Declared) → names_of (cs ++ c ∷ []) ≡ names_of cs ++ c.name ∷ []
 names_push [] c = refl
@@ -62,12 +60,6 @@ all_kept (l ∷ ls) = by (is_passed_over l.bytes) refl (all_kept ls)
     by : (b : Bool) → is_passed_over l.bytes ≡ b → AreKept (kept ls) → AreKept (cond (not (is_passed_over l.bytes)) (l ∷ kept ls) (kept ls))
     by true e more = subst AreKept (sym (kept_over l ls e)) more
     by false e more = subst AreKept (sym (kept_here l ls e)) (e, more)
-
-table_head : (t u : DumpTable) (ts us : List DumpTable) → t ∷ ts ≡ u ∷ us → t ≡ u
-table_head t u ts us e = cc
-
-table_tail : (t u : DumpTable) (ts us : List DumpTable) → t ∷ ts ≡ u ∷ us → ts ≡ us
-table_tail t u ts us e = cc
 
 filter_among : (before : List DumpTable) (t : DumpTable) (after : List DumpTable) → NoFilter (before ++ t ∷ after) → IsFilter t → ⊥
 filter_among [] t after h is = h.0 is
@@ -263,12 +255,8 @@ module _ (W : ℕ) (Reads : Text → ℕ → Type 0) where
         finds = subst (λ (z : Option (Filter W)). Finds r.tables z g) (λ i. Some (e i, rs i)) r.finds;
       }
 
-  not_nil : (xs : List (Placed W)) (x : Placed W) → xs ++ x ∷ [] ≡ [] → ⊥
-  not_nil [] x e = cc
-  not_nil (y ∷ xs) x e = cc
-
   no_lines : (rules : List (Placed W)) (x : Placed W) (ls : List Numbered) → (rules ++ x ∷ [] ≡ []) ⊎ (ls ≡ []) → ls ≡ []
-  no_lines rules x ls (inl e) = absurd (not_nil rules x e)
+  no_lines rules x ls (inl e) = absurd (no_cons rules x [] e)
   no_lines rules x ls (inr e) = e
 
   no_chains : (ls : List Numbered) (cs : List Declared) → ls ≡ [] → AreChainLines ls cs → cs ≡ []
@@ -462,19 +450,18 @@ module _ (W : ℕ) (Reads : Text → ℕ → Type 0) where
   finds_none (t ∷ ts) f g (m, (inr a, h)) e d = (a.0, finds_none ts m g h (a.1 ∙ e) d)
 
   finds_one : (ts : List DumpTable) (f g : Option (Filter W)) → Finds ts f g → (before after : List DumpTable) (t : DumpTable) → ts ≡ before ++ t ∷ after → IsFilter t → NoFilter (before ++ after)
-  finds_one [] f g h [] after t e is = absurd (let d : [] ≡ t ∷ after = e in cc)
-  finds_one [] f g h (b ∷ before) after t e is = absurd (let d : [] ≡ b ∷ (before ++ t ∷ after) = e in cc)
+  finds_one [] f g h before after t e is = absurd (no_cons before t after (sym e))
   finds_one (u ∷ ts) f g h [] after t e is =
-      let first : t ≡ u = table_head t u after ts (sym e) in
-      let rest : ts ≡ after = table_tail u t ts after e in
+      let first : t ≡ u = head_same t u after ts (sym e) in
+      let rest : ts ≡ after = tail_same u t ts after e in
       subst NoFilter rest (by h.1.0 (subst IsFilter first is))
     where
       by : Turns u f h.0 → IsFilter u → NoFilter ts
       by (inl a) i = (some_ends ts (a.2.0, a.2.1) g (subst (λ (z : Option (Filter W)). Finds ts z g) a.2.2.1 h.1.1)).0
       by (inr a) i = absurd (a.0 i)
   finds_one (u ∷ ts) f g h (b ∷ before) after t e is =
-      let first : u ≡ b = table_head u b ts (before ++ t ∷ after) e in
-      let rest : ts ≡ before ++ t ∷ after = table_tail u b ts (before ++ t ∷ after) e in
+      let first : u ≡ b = head_same u b ts (before ++ t ∷ after) e in
+      let rest : ts ≡ before ++ t ∷ after = tail_same u b ts (before ++ t ∷ after) e in
       by h.1.0 first rest (finds_one ts h.0 g h.1.1 before after t rest is)
     where
       by : Turns u f h.0 → u ≡ b → ts ≡ before ++ t ∷ after → NoFilter (before ++ after) → NoFilter (b ∷ (before ++ after))

@@ -13,10 +13,8 @@ use Rattle.dump_read.specs.declared.state.Reading.{Reading}
 use Rattle.dump_read.specs.Parts.{OnMalformed}
 use Rattle.dump_read.specs.Positions.{Filter, Position, Adds, Moves, Step}
 use Rattle.dump_read.specs.States.{Keeps, Knows, Shows}
-use Rattle.dump_read.proofs.StepLemmas.{one_words, word_head, byte_tail, close_chain, chain_rule}
-
-tests : (b : Bool) → b ≡ true → b ≡ false → ⊥
-tests b p q = cc
+use Rattle.dump_read.proofs.Basics.{clash, head_same, tail_same}
+use Rattle.dump_read.proofs.StepLemmas.{one_words, close_chain, chain_rule}
 
 -- what a malformed line says says less
 pub malformed_less : (P Q : Type 0) (fault : LineFault) → (P → Q) → OnMalformed P fault → OnMalformed Q fault
@@ -26,7 +24,7 @@ malformed_less P Q LineFault.Memory f h = tt
 same_name : (line : Text) (a b : Text) → HasWords line (bare (42 ∷ a) ∷ []) → HasWords line (bare (42 ∷ b) ∷ []) → a ≡ b
 same_name line a b p q =
     let e : bare (42 ∷ a) ∷ [] ≡ bare (42 ∷ b) ∷ [] = one_words line (bare (42 ∷ a) ∷ []) (bare (42 ∷ b) ∷ []) p q in
-    byte_tail 42 42 a b (ap (λ (w : Word). w.text) (word_head (bare (42 ∷ a)) (bare (42 ∷ b)) [] [] e))
+    tail_same 42 42 a b (ap (λ (w : Word). w.text) (head_same (bare (42 ∷ a)) (bare (42 ∷ b)) [] [] e))
 
 -- the words are those of the line
 pub words_has : (line : Text) (tokens words : List Token) → words ≡ tokens → HasWords line (words_of tokens) → HasWords line (words_of words)
@@ -45,7 +43,7 @@ module _ {W : ℕ} where
 
   not_found : (old : Reading W) (found : Option (Filter W)) → old.has_filter ≡ false → Knows old found → (found ≡ None) × Keeps old [] []
   not_found old None h k = (refl, k.1)
-  not_found old (Some f) h k = absurd (tests old.has_filter k.0 h)
+  not_found old (Some f) h k = absurd (clash old.has_filter k.0 h)
 
 module _ (W : ℕ) (Reads : Text → ℕ → Type 0) where
   abbrev pub Goes : Position W → Numbered → Reading W → Type 0
@@ -77,7 +75,7 @@ module _ (W : ℕ) (Reads : Text → ℕ → Type 0) where
       old.has_filter ≡ true → Shows old (Position.Outside found) → Moves W Reads (Position.Outside found) (record { number = n; bytes = line }) q → ⊥
   open_twice old found n line name q has is some s (other, (full, has', inl (a, none, e))) =
       let k : Knows old None = subst (Knows old) none s.1 in
-      tests old.has_filter some k.0
+      clash old.has_filter some k.0
   open_twice old found n line name q has is some s (other, (full, has', inr (never, e))) = never (same_name line other name has' has ∙ is)
 
   pub open_none : (old : Reading W) (found : Option (Filter W)) (n : ℕ) (line : Text) (words : List Word) (q : Position W) → HasWords line words →
@@ -138,7 +136,7 @@ module _ (W : ℕ) (Reads : Text → ℕ → Type 0) where
   taken p line new kept g = (g.0, (inr (kept, g.1.0), g.1.1))
 
   stuck_by : (p q : Position W) (line : Numbered) → is_passed_over line.bytes ≡ false → (Moves W Reads p line q → ⊥) → Step W Reads p line q → ⊥
-  stuck_by p q line kept never (inl a) = tests (is_passed_over line.bytes) a.0 kept
+  stuck_by p q line kept never (inl a) = clash (is_passed_over line.bytes) a.0 kept
   stuck_by p q line kept never (inr a) = never a.1
 
   pub outside_takes : (old new : Reading W) (line : Numbered) → old.part ≡ Part.Outside → is_passed_over line.bytes ≡ false →

@@ -74,7 +74,7 @@ module _ {W : ℕ} where
   EndsWith p lines ReadFault.Memory = ⊥
 
   -- what a reader who stands there at the end of the text answers
-  pub record Answers (p : Position W) (dump : Dump (Prim_ W)) : Type 0 where
+  pub record EndsAs (p : Position W) (dump : Dump (Prim_ W)) : Type 0 where
     pub chains : List Declared
     pub rules : List (Placed W)
     pub there : p ≡ Position.Outside (Some (chains, rules))

@@ -15,3 +15,6 @@ mod steps;
 pub use fault::ReadFault;
 pub use laws::{fronts_fit, one_answer, one_kind, some_kind};
 pub use reader::read_dump;
+
+#[cfg(test)]
+mod tests;

@@ -4,7 +4,7 @@ ghost use Rattle.interval_set.specs.Numbers.{IsWidth};
 ghost use Rattle.dump_grammar.specs.Reads.{IsDump};
 ghost use Rattle.dump_read.specs.Answers.{IsFaultOf, IsPrintableDump};
 ghost use Rattle.dump_read.specs.Positions.{Position};
-ghost use Rattle.dump_read.specs.States.{Answers, EndsWith, Shows};
+ghost use Rattle.dump_read.specs.States.{EndsAs, EndsWith, Shows};
 
 use crate::fault::{LineFault, ReadFault};
 use crate::lines::first_line;
@@ -19,7 +19,7 @@ use std::alloc::Global;
 // What the text is, of which so many lines were taken.
 fn finish<const W: u32>(state: Reading<W>, lines: u32) -> Result<Dump<Prim_<W>>, ReadFault>
     requires { lines ≤ 16777216 }
-    ensures ok { IfOk result (λ dump. (p : Position W) → Shows state.entry p → Answers p dump) }
+    ensures ok { IfOk result (λ dump. (p : Position W) → Shows state.entry p → EndsAs p dump) }
     ensures fault { IfErr result (λ fault. (p : Position W) → Shows state.entry p → EndsWith p lines fault) }
 {
     if state.part != Part::Outside {

@@ -80,6 +80,10 @@ pub(crate) fn add_rule<const W: u32>(
         return Ok(());
     };
     let here = &mut state.chains[number as usize];
-    let lits = literals;
-    push_rule(alloc, here, Rule { lits, action, line })
+    let rule = Rule {
+        lits: literals,
+        action,
+        line,
+    };
+    push_rule(alloc, here, rule)
 }

@@ -80,11 +80,10 @@ fn add_line<F: Family<W>, const W: u32>(
     if let Some(chain) = chain_line(alloc, words)? {
         return add_chain(alloc, state, chain);
     }
-    let Some(rule) = rule_line::<F, W>(alloc, words, &state.names)? else {
-        return Err(LineFault::Malformed);
-    };
-    add_rule(alloc, state, rule, number)?;
-    Ok(())
+    match rule_line::<F, W>(alloc, words, &state.names)? {
+        Some(rule) => Ok(add_rule(alloc, state, rule, number)?),
+        None => Err(LineFault::Malformed),
+    }
 }
 
 /// Takes the next line, which has this number.

@@ -3,13 +3,14 @@ use Rattle.fw_rule.specs.declared.rule.Rule.{Rule}
 use Rattle.primitives.specs.declared.prim.Prim_.{Prim_}
 use Rattle.dump_grammar.specs.ChainLines.{is_among}
 use Rattle.dump_grammar.specs.Tables.{names_of}
-use Rattle.dump_read.proofs.StateLemmas.{both, chain_added, declared_of, none_ruled}
+use Rattle.dump_read.proofs.Basics.{clash}
+use Rattle.dump_read.proofs.StateLemmas.{chain_added, declared_of, none_ruled}
 use Rattle.dump_read.proofs.rules.add_chain.Goals as goal
 
 pub returns-then-not-branch-clause-stuck : goal.returns-then-not-branch-clause-stuck
 returns-then-not-branch-clause-stuck g c chains rules keeps nil fresh =
     let known = declared_of c.args.state.now.names chains c.args.chain.name c.as_slice.result.now c.in_ok-declare.field-0 keeps.names c.as_slice.ensures c.in_ok-declare.ensures.added in
-    both (is_among (names_of chains) c.args.chain.name) (known ∙ ap not c.if-not-branch.true) fresh
+    clash (is_among (names_of chains) c.args.chain.name) (known ∙ ap not c.if-not-branch.true) fresh
 
 pub returns-clause-added : goal.returns-clause-added
 returns-clause-added g c chains rules keeps =

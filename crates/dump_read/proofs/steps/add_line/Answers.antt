@@ -4,7 +4,7 @@ use Rattle.std.proofs.lemmas.Result.{err_from_is_err_and, on_ok_weaker, IfErr-we
 use Rattle.dump_grammar.specs.Lines.{Word, IsLine}
 use Rattle.dump_grammar.proofs.PolicyLemmas.{one_chain_line}
 use Rattle.dump_read.proofs.Readers.{words_lines}
-use Rattle.dump_read.proofs.StateLemmas.{both}
+use Rattle.dump_read.proofs.Basics.{clash}
 use Rattle.dump_read.proofs.TakeLemmas.{malformed_less, words_has, add_close, chain_goes, rule_goes, add_none, chain_stuck}
 use Rattle.dump_read.proofs.steps.add_line.Goals as goal
 
@@ -34,19 +34,19 @@ returns-in-Some-clause-stuck g c =
     chain_stuck g.row.W g.F.Family.Reads one_chain_line c.args.state.now chains rules c.args.number c.args.line.now _ c.in-Some.chain q has is stuck s m) told)
     c.add_chain.ensures.stuck
 
-pub returns-in_default-2-clause-stuck : goal.returns-in_default-2-clause-stuck
-returns-in_default-2-clause-stuck g c chains rules q s m =
+pub returns-clause-stuck : goal.returns-clause-stuck
+returns-clause-stuck g c chains rules q s m =
     let has = words_has c.args.line.now c.in_ok-tokens.tokens c.as_slice-words.result.now c.as_slice-words.ensures c.in_ok-tokens.ensures.words in
     let no_chain = rw c.in_default.is at c.in_ok-chain.ensures.none in
-    let no_rule = rw c.in_default-2.is at c.in_ok-rule.ensures.none in
+    let no_rule = rw c.in-None.is at c.in_ok-rule.ensures.none in
     add_none g.row.W g.F.Family.Reads c.args.state.now chains rules c.args.number c.args.line.now _ q has
-    (λ e. both c.is_close.result (c.is_close.ensures.1 e) c.if-is_close.false) no_chain no_rule s m
+    (λ e. clash c.is_close.result (c.is_close.ensures.1 e) c.if-is_close.false) no_chain no_rule s m
 
-pub returns-clause-moved : goal.returns-clause-moved
-returns-clause-moved g c chains rules s =
+pub returns-in-Some-2-clause-moved : goal.returns-in-Some-2-clause-moved
+returns-in-Some-2-clause-moved g c chains rules s =
     let has = words_has c.args.line.now c.in_ok-tokens.tokens c.as_slice-words.result.now c.as_slice-words.ensures c.in_ok-tokens.ensures.words in
     let is = rw c.in-Some-2.is at c.in_ok-rule.ensures.some in
-    rule_goes g.row.W g.F.Family.Reads c.args.state.now c.add_rule.new.state chains rules c.args.number c.args.line.now _ c.in-Some-2.rule has is c.in_ok-add_rule.ensures.added
+    rule_goes g.row.W g.F.Family.Reads c.args.state.now c.add_rule.new.state chains rules c.args.number c.args.line.now _ c.in-Some-2.rule has is c.in_ok-add_rule-in-Some-2.ensures.added
     c.add_rule.ensures.part c.add_rule.ensures.has_filter s
 
 pub add_rule-requires : goal.add_rule-requires

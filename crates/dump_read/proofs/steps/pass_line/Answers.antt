@@ -1,4 +1,4 @@
-use Rattle.dump_read.proofs.StateLemmas.{both}
+use Rattle.dump_read.proofs.Basics.{clash}
 use Rattle.dump_read.proofs.TakeLemmas.{pass_commit, pass_other}
 use Rattle.dump_read.proofs.steps.pass_line.Goals as goal
 
@@ -9,4 +9,4 @@ returns-then-is_commit g c found n s =
 pub returns-else-is_commit : goal.returns-else-is_commit
 returns-else-is_commit g c found n s =
     pass_other g.row.W g.F.Family.Reads c.args.state.now found n c.args.line.now
-    (λ is. both c.is_commit.result (c.is_commit.ensures.1 is) c.if-is_commit.false) s
+    (λ is. clash c.is_commit.result (c.is_commit.ensures.1 is) c.if-is_commit.false) s
