@@ -62,7 +62,10 @@ fn has_policy<P: Primitive>(dump: &Dump<P>) -> bool
 }
 
 /// What a check of the first chain answers. None where it is refused, or the dump can't be asked of it.
-pub fn checked<P: Primitive>(alloc: Global, dump: &Dump<P>) -> Result<Option<Ranked>, FlatFault>
+pub(crate) fn checked<P: Primitive>(
+    alloc: Global,
+    dump: &Dump<P>,
+) -> Result<Option<Ranked>, FlatFault>
     ensures room { IfOk result (λ o. IfSome o (λ ranked. HasRoom dump.now)) }
     ensures settled { IfOk result (λ o. IfSome o (λ ranked. Settled dump.now 0)) }
     ensures checked { IfOk result (λ o. IfSome o (IsChecked dump.now 0)) }

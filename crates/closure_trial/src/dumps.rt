@@ -5,7 +5,7 @@ use match_expr::{Bytes, Expr, List, Primitive};
 use std::alloc::{AllocError, Global};
 
 /// Packets are the numbers below this.
-pub const PACKETS: u8 = 3;
+pub(crate) const PACKETS: u8 = 3;
 
 /// How many chains a dump has.
 const CHAINS: usize = 4;
@@ -15,7 +15,7 @@ const PLACES: u32 = 7;
 
 /// Holds of the packet of this number.
 #[derive(Debug, Drop)]
-pub struct Is(pub u8);
+pub(crate) struct Is(pub u8);
 
 impl Primitive for Is {
     type Packet = u8;
@@ -34,12 +34,13 @@ impl Primitive for Is {
 
 /// Numbers that follow from a seed.
 #[derive(Debug, Drop)]
-pub struct Random {
+pub(crate) struct Random {
     state: u64,
 }
 
 impl Random {
-    pub fn new(seed: u32) -> Random {
+    /// The same seed gives the same numbers.
+    pub(crate) fn new(seed: u32) -> Random {
         Random {
             state: u64::from(seed),
         }
@@ -136,7 +137,7 @@ fn random_chain(
 }
 
 /// A dump of few chains and rules. Each chain has a policy, also those that are called, and calls later chains alone.
-pub fn random_dump(alloc: Global, random: &mut Random) -> Result<Dump<Is>, AllocError> {
+pub(crate) fn random_dump(alloc: Global, random: &mut Random) -> Result<Dump<Is>, AllocError> {
     let mut places = [0u32; CHAINS];
     let mut chains = Vec::new(alloc);
     for passed in 0..CHAINS {

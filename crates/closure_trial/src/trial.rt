@@ -1,3 +1,6 @@
+ghost use Rattle.std.specs.Prelude.{◌≡◌, ◌==◌};
+ghost use Rattle.match_expr.specs.FirstMatch.{first_match};
+
 use crate::asking::checked;
 use crate::dumps::{Is, PACKETS, Random, random_dump};
 use closure::{FlatFault, Side, flat};
@@ -6,18 +9,28 @@ use match_expr::FlatRule;
 use reckoner::reckon;
 use std::alloc::Global;
 
-/// Whether the list, with the policy at its end, accepts the packet.
-pub fn accepts(rules: &[FlatRule<Is>], policy: Option<Verdict>, p: u8) -> bool {
+/// What the first rule answers whose expression holds of the packet.
+fn first_verdict(rules: &[FlatRule<Is>], p: u8) -> Option<bool>
+    ensures { result ≡ first_match (λ x. x.0 == p) rules.now }
+{
     for rule in rules {
         if rule.expr.eval(&p) {
-            return rule.accept;
+            return Some(rule.accept);
         }
     }
-    policy == Some(Verdict::Accept)
+    None
+}
+
+/// Whether the list, with the policy at its end, accepts the packet.
+pub(crate) fn accepts(rules: &[FlatRule<Is>], policy: Option<Verdict>, p: u8) -> bool {
+    match first_verdict(rules, p) {
+        Some(accept) => accept,
+        None => policy == Some(Verdict::Accept),
+    }
 }
 
 /// Whether the lists of both sides accept exactly the packets that may and that must be accepted in the first chain.
-pub fn agrees(alloc: Global, dump: &Dump<Is>) -> Result<bool, FlatFault> {
+pub(crate) fn agrees(alloc: Global, dump: &Dump<Is>) -> Result<bool, FlatFault> {
     let Some(ranked) = checked(alloc, dump)? else {
         return Ok(false);
     };
@@ -39,7 +52,7 @@ pub fn agrees(alloc: Global, dump: &Dump<Is>) -> Result<bool, FlatFault> {
 }
 
 /// Of so many random dumps, those on which the lists and the walks differ.
-pub fn differences(alloc: Global, count: u32, seed: u32) -> Result<u32, FlatFault> {
+pub(crate) fn differences(alloc: Global, count: u32, seed: u32) -> Result<u32, FlatFault> {
     let mut random = Random::new(seed);
     let mut differences = 0u32;
     for _ in 0..count {
