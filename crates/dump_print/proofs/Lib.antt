@@ -1,2 +1,12 @@
+pub mod AddressLemmas
+pub mod FlagCover
+pub mod FlagLemmas
 pub mod NameLemmas
+pub mod NamedLemmas
+pub mod NumberLemmas
+pub mod PortCover
+pub mod PortLemmas
+pub mod SetLemmas
+pub mod SpacedLemmas
 pub mod Steps
+pub mod WordCover

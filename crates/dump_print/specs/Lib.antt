@@ -1,2 +1,12 @@
+pub mod Addresses
+pub mod FlagCover
+pub mod Flags
 pub mod Names
+pub mod Parts
+pub mod PortCover
+pub mod Ports
+pub mod Protocols
 pub mod Spelling
+pub mod States
+pub mod Tables
+pub mod Written

@@ -1,6 +1,17 @@
 //! Prints a list of simple rules as a table that iptables-restore reads.
 #![tactic(auto)]
 
+mod addresses;
+mod fault;
+mod flags;
+mod laws;
 mod names;
+mod ports;
+mod protocols;
+mod sets;
+mod words;
+mod writer;
 
+pub use fault::PrintFault;
+pub use laws::{flags_are_kept, ports_are_kept, words_are_kept};
 pub use names::pattern_text;
