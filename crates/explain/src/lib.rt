@@ -5,6 +5,8 @@ mod answer;
 mod choosing;
 mod explaining;
 mod reach;
+#[cfg(test)]
+mod tests;
 mod views;
 
 pub use answer::{Explain, ExplainFault};
