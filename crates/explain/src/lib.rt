@@ -4,6 +4,7 @@
 mod answer;
 mod choosing;
 mod explaining;
+mod laws;
 mod reach;
 #[cfg(test)]
 mod tests;
@@ -11,3 +12,4 @@ mod views;
 
 pub use answer::{Explain, ExplainFault};
 pub use explaining::explain;
+pub use laws::one_explanation;
