@@ -168,6 +168,77 @@ def checks():
     check("a folder, checked", told(run(["check"], stdin=os.open("/", os.O_RDONLY), stdout=-1, stderr=-1)), refused(2, "read failed"))
 
 
+# Rules of FORWARD, in a dump that also declares the chain C, and how many unknown matches each has; None where the line
+# is malformed, a name where the target isn't supported.
+LINES = [
+    ('"-s" 10.0.0.1 -j ACCEPT', None), ('-s 10.0.0.1 "-j" ACCEPT', None), ('"!" -s 10.0.0.1 -j ACCEPT', None), ('"-m" tcp', None),
+    ('-m comment --comment "-j DROP" -j ACCEPT', 0), ('-m limit --limit "--x" --burst 1 -j ACCEPT', 2), ("-m limit --limit 1/s ! --x -j ACCEPT", 2),
+    ('-i a"b -j ACCEPT', 0), ('-i "a"-j ACCEPT', 0), ('-i "a\\"b\\\\" -j ACCEPT', 0), ('-i "a\\', None), ('-m comment --comment "half -j ACCEPT', None),
+    ("-i \x00 -j ACCEPT", 0), ("-i \xe9t\xe9 -j ACCEPT", 0), ("-i\teth0\t-j\tACCEPT\r", 0), ("-i eth0 -j ACCEPT \r", 0),
+    ("-m tcp --dport 22 -p tcp -j ACCEPT", 0), ("-j ACCEPT -m", None), ("-m", None), ("-m state -m tcp -j ACCEPT", 0), ("-m limit -m socket -j ACCEPT", 2),
+    ("-m comment -j ACCEPT", 0), ("--dport 22 -j ACCEPT", 1), ("! -m tcp --dport 22", None), ("-m comment ! --comment x -j ACCEPT", 1),
+    ("-m addrtype -s 10.0.0.0/8 --dst-type LOCAL -j ACCEPT", 1), ("-m socket -s 10.0.0.0/8 -j ACCEPT", 1),
+    ("-p tcp -m tcp --dport ssh -j ACCEPT", 1), ("-p tcp -m tcp --dport 65536 -j ACCEPT", 1), ("-p tcp -m tcp --sport 2:1 -j ACCEPT", 1),
+    ("-p tcp -m tcp --sport 0:65535 -j ACCEPT", 0), ("-p tcp -m tcp --sport 080 -j ACCEPT", 1), ("-m tcp --dport", None), ("-m tcp ! --dport 22 -j ACCEPT", 0),
+    ("-p tcp -m multiport --dports 1,2,3,4,5,6,7,8,9,10,11,12,13,14,15 -j ACCEPT", 0),
+    ("-p tcp -m multiport --dports 1,2,3,4,5,6,7,8,9,10,11,12,13,14,15,16 -j ACCEPT", 1),
+    ("-p tcp -m multiport --dports 1:2,3:4,5:6,7:8,9:10,11:12,13:14,15 -j ACCEPT", 0),
+    ("-p tcp -m multiport --dports 1:1,2:2,3:3,4:4,5:5,6:6,7:7,8:8 -j ACCEPT", 1), ("-p tcp -m multiport --dports 1,,2 -j ACCEPT", 1),
+    ("-p 6 -m multiport --ports 1 -j ACCEPT", 0), ("-p sctp -m multiport --sports 1 -j ACCEPT", 0), ("! -p tcp -m multiport --dports 1 -j ACCEPT", 1),
+    ("-m multiport --dports 1 -j ACCEPT", 1), ("-p icmp -m multiport --dports 1 -j ACCEPT", 1), ("-m multiport --dports 1 -p udp -j ACCEPT", 0),
+    ("-p 0 -j ACCEPT", 0), ("-p all -j ACCEPT", 0), ("-p 007 -j ACCEPT", 1), ("-p 256 -j ACCEPT", 1), ("-p foo -j ACCEPT", 1), ("! -p 0 -j ACCEPT", None),
+    ("! -p all -j ACCEPT", None), ("-p icmpv6 -j ACCEPT", 0), ("-p ! -j DROP", 1), ("-f -j ACCEPT", 1), ("! -f -j ACCEPT", 1), ("-f -f -j ACCEPT", None),
+    ("-s 0.0.0.0/0 -j ACCEPT", 0), ("-s 10.0.0.1/255.0.255.0 -j ACCEPT", 1), ("-s 10.0.0.1/255.255.0.0 -j ACCEPT", 0), ("-s 10.0.0.1/33 -j ACCEPT", None),
+    ("-s host -j ACCEPT", None), ("-s 010.0.0.1 -j ACCEPT", None), ("-s ! 10.0.0.0/8 -j DROP", None), ("! -s 10.0.0.0/8 -j DROP", 0),
+    ("-s 1.2.3.4/32 -s 1.2.3.5/32 -j DROP", None), ("-i + -j ACCEPT", 0), ('-i "" -j ACCEPT', None), ("-i ! -j ACCEPT", 0), ("-i ! eth0 -j ACCEPT", None), ("-i -s -j ACCEPT", 0),
+    ("-i " + "a" * 255 + " -j ACCEPT", 0), ("-i " + "a" * 256 + " -j ACCEPT", None), ("-i " + "a" * 254 + "+ -j ACCEPT", 0), ("-i " + "a" * 255 + "+ -j ACCEPT", None),
+    ("-p tcp -m tcp --tcp-flags ALL NONE -j ACCEPT", 0), ("-p tcp -m tcp --tcp-flags SYN,ALL SYN -j ACCEPT", 1), ("-p tcp -m tcp --tcp-flags SYN", None),
+    ("-p tcp -m tcp --syn -j ACCEPT", 0), ("-p tcp -m tcp ! --syn -j ACCEPT", 0), ("-m conntrack --ctstate NEW,SNAT -j ACCEPT", 1), ("-m state --state NEW,NEW -j ACCEPT", 0),
+    ("-m iprange --src-range 10.0.0.1-10.0.0.9 -j ACCEPT", 0), ("-m iprange --src-range 10.0.0.9-10.0.0.1 -j ACCEPT", 1),
+    ("-m base --sport 1 -j ACCEPT", 1), ("-m base -s 10.0.0.1 -j ACCEPT", 1), ('-m "" -j ACCEPT', 1), ("-m icmp --icmp-type 8 9 -j ACCEPT", 1), ("--x -j ACCEPT", 1), ("-- -j ACCEPT", None), ("-x -j ACCEPT", None),
+    ("", 0), ("-j", None), ("-g", None), ("-g C", "-g"), ("-g C x", None), ("-j INPUT", "INPUT"), ("-j NFQUEUE --queue-num 1", "NFQUEUE"), ("-j C", 0), ("-j C x", None),
+    ("-j ACCEPT x", None), ("-j RETURN", 0), ("-j RETURN x", None), ("-j REJECT", 0), ("-j REJECT --reject-with tcp-reset", 0), ("-j REJECT --reject-with", None),
+    ('-j REJECT "--reject-with" x', None), ("-j LOG --log-prefix x -m anything", 0), ('-j "ACCEPT"', 0), ("-j ACCEPT -s 10.0.0.1", None),
+]
+
+# Whole texts, and the line of the answer: counts, or what standard error says.
+TEXTS = [
+    (b"", "no filter table"), (b"\n", "no filter table"), (b"# a\n \t\r\n", "no filter table"), (b"*nat\nx\nCOMMIT\n", "no filter table"),
+    (b"*nat\n*filter\n\"\n \tCOMMIT\r\n", "no filter table"), (b"*nat\n\"COMMIT\"\n", "line 3: malformed"), (b"*filter", "line 2: malformed"),
+    (b"x\n*filter\nCOMMIT\n", "line 1: malformed"), (b"COMMIT\n", "line 1: malformed"), (b"*\n", "line 1: malformed"), (b"* filter\n", "line 1: malformed"),
+    (b"\"*filter\"\n", "line 1: malformed"), (b"*filter x\n", "line 1: malformed"),
+    (b"*filter\n:FORWARD DROP\nCOMMIT\n*filter\nCOMMIT\n", "line 4: malformed"), (b"*filter\n:FORWARD DROP\n*filter\nCOMMIT\n", "line 3: malformed"),
+    (b"*filter\n:FORWARD DROP\nCOMMIT x\n", "line 3: malformed"), (b"*filter\n:FORWARD DROP\n\"COMMIT\"\n", "line 3: malformed"),
+    (b"*filter\n:FORWARD DROP\n", "line 3: malformed"), (b"*filter\n:FORWARD DROP\nCOMMIT", "ok chains 1 rules 0 unknown 0"),
+    (b" *filter\r\n :FORWARD DROP [1:2]\t\nCOMMIT \n", "ok chains 1 rules 0 unknown 0"), (b"*filter\n:FORWARD - [0:0]\nCOMMIT\n", "line 2: malformed"),
+    (b"*filter\n:FORWARD DROP\n:FORWARD DROP\nCOMMIT\n", "line 3: malformed"), (b"*filter\n:FORWARD DROP\n:LOG -\nCOMMIT\n", "line 3: malformed"),
+    (b"*filter\n:FORWARD DROP\n:X ACCEPT\nCOMMIT\n", "line 3: malformed"), (b"*filter\n:FORWARD DROP\n: -\nCOMMIT\n", "line 3: malformed"),
+    (b"*filter\n:FORWARD DROP [0:]\nCOMMIT\n", "line 2: malformed"), (b"*filter\n:FORWARD DROP [0:0] x\nCOMMIT\n", "line 2: malformed"),
+    (b"*filter\n:FORWARD DROP\n-A FORWARD -j ACCEPT\n:X -\nCOMMIT\n", "line 4: malformed"), (b"*filter\n-A FORWARD\n:FORWARD DROP\nCOMMIT\n", "line 3: malformed"),
+    (b"*filter\n:FORWARD DROP\n[1:2] -A FORWARD -j ACCEPT\nCOMMIT\n", "ok chains 1 rules 1 unknown 0"), (b"*filter\n:FORWARD DROP\n\"[1:2]\" -A FORWARD\nCOMMIT\n", "line 3: malformed"),
+    (b"*filter\n:FORWARD DROP\n[1:] -A FORWARD\nCOMMIT\n", "line 3: malformed"), (b"*filter\n:FORWARD DROP\n-A LOST\n-A ALSO\nCOMMIT\n", "line 3: undefined chain"),
+    (b"*filter\n:FORWARD DROP\n-A LOST\nx\nCOMMIT\n", "line 4: malformed"), (b"*filter\n:FORWARD DROP\n-A LOST\n", "line 4: malformed"),
+    (b"*filter\n:FORWARD DROP\n-A LOST\nCOMMIT\n*nat\n", "line 6: malformed"), (b"*filter\n:FORWARD DROP\n-A \"FORWARD\"\n-A\nCOMMIT\n", "line 4: malformed"),
+    (b"*raw\n:x y z\nCOMMIT\n\n*filter\n:FORWARD DROP\n\n# a\n-A FORWARD -m limit\nCOMMIT\n*mangle\nCOMMIT\n", "ok chains 1 rules 1 unknown 1"),
+]
+
+
+def grammar():
+    for line, answer in LINES:
+        text = table(":FORWARD DROP [0:0]", ":C - [0:0]", "-A FORWARD " + line)
+        if answer is None:
+            wanted = refused(5, "line 4: malformed")
+        elif isinstance(answer, str):
+            wanted = refused(9, "line 4: unsupported target " + answer)
+        else:
+            wanted = counts(2, 1, answer)
+        check(f"the rule {line[:60]}", told(run(["check"], text)), wanted)
+    for text, line in TEXTS:
+        done = run(["check"], text)
+        got = (done.stdout or done.stderr[len("fffuu: "):]).decode()
+        check(f"the text {text}", got, line + "\n")
+
+
 def samples():
     for name, words in [("prefixes", ["upper"]), ("prefixes6", ["upper", "--family", "6"])]:
         with open(f"{TOP}/samples/{name}.rules", "rb") as given, open(f"{TOP}/samples/{name}.upper", "rb") as kept:
@@ -250,6 +321,7 @@ if len(sys.argv) != 2:
 PROGRAM = os.path.abspath(sys.argv[1])
 edges()
 checks()
+grammar()
 samples()
 addresses()
 print(f"{passed} passed, {failed} failed")
