@@ -1,11 +1,15 @@
 pub mod Addresses
+pub mod CubeLines
 pub mod FlagCover
 pub mod Flags
+pub mod Helpers
 pub mod Names
 pub mod Parts
 pub mod PortCover
 pub mod Ports
+pub mod Printed
 pub mod Protocols
+pub mod Sets
 pub mod Spelling
 pub mod States
 pub mod Tables

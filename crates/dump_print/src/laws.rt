@@ -1,25 +1,22 @@
 //! How what is printed is read back.
-ghost use Rattle.std.specs.Prelude.{◌-◌, ◌^◌, ◌≡◌};
+ghost use Rattle.std.specs.Prelude.{ℕ, List};
+ghost use Rattle.interval_set.specs.declared.set.Range.{Range};
 ghost use Rattle.interval_set.specs.Numbers.{IsSet};
 ghost use Rattle.dump_print.specs.FlagCover.{CoverFlags};
 ghost use Rattle.dump_print.specs.PortCover.{CoverPorts};
 ghost use Rattle.dump_print.specs.Written.{KeepsWords};
 
-use interval_set::Set;
-
 /// The cubes of a set of flags are apart and together the set: a number of the set matches one of them, and any other
 /// number none. The set has a bit for each number of six flags.
-pub fn flags_are_kept(numbers: u64)
-    ensures { CoverFlags numbers }
+pub fn flags_are_kept()
+    ensures { (flags : ℕ) → CoverFlags flags }
 {}
 
 /// Each list of ports that is printed for a set may stand in a dump and is read as its ranges, and the lists together
 /// are the set.
-pub fn ports_are_kept(set: &Set<16>)
-    ensures { CoverPorts set.now }
-{
-    let _ranges = set.ranges();
-}
+pub fn ports_are_kept()
+    ensures { (rs : List Range) → IsSet 16 rs → CoverPorts rs }
+{}
 
 /// The words of a printed line are those that were put into it: in quotes any text, and bare one that begins with no
 /// quote and has no blank.

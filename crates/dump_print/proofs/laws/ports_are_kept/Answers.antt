@@ -2,4 +2,4 @@ use Rattle.dump_print.proofs.PortCover.{ports_covered}
 use Rattle.dump_print.proofs.laws.ports_are_kept.Goals as goal
 
 pub returns : goal.returns
-returns c = ports_covered c.args.set.now c.ranges-ranges.ensures.set.1
+returns c = ports_covered
