@@ -6,8 +6,10 @@ use std::alloc::{AllocError, Global};
 
 /// The numbers of flags of which those of the mask that are set are exactly those of comp.
 #[derive(Clone, Copy, Debug, PartialEq, Eq)]
-pub(crate) struct FlagCube {
+pub struct FlagCube {
+    /// The flags that are looked at.
     pub mask: u8,
+    /// Those of them that are set.
     pub comp: u8,
 }
 

@@ -14,6 +14,8 @@ mod words;
 mod writer;
 
 pub use fault::PrintFault;
+pub use flags::FlagCube;
 pub use laws::{flags_are_kept, ports_are_kept, words_are_kept};
 pub use names::pattern_text;
 pub use printing::{Printed, print};
+pub use protocols::Protocols;

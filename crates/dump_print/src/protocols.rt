@@ -11,7 +11,7 @@ use std::alloc::{AllocError, Global};
 
 /// What one line can say of a set of protocols.
 #[derive(Clone, Copy, Debug, PartialEq, Eq)]
-pub(crate) enum Protocols {
+pub enum Protocols {
     /// Every protocol.
     Every,
     /// This protocol alone, from 1.

@@ -17,6 +17,11 @@ use Rattle.dump_print.specs.Parts.{Choice}
 use Rattle.dump_print.specs.Ports.{Ports}
 use Rattle.dump_print.specs.Protocols.{protocols_of}
 
+-- the number of the one protocol
+abbrev pub number_of : Protocols → ℕ
+number_of (Protocols.Only n) = n
+number_of _ = 0
+
 module _ {W : ℕ} where
   -- the test holds
   abbrev pub yes : Prim_ W → Lit (Prim_ W)
@@ -71,11 +76,6 @@ module _ {W : ℕ} where
 
   abbrev pub state_literals : ℕ → List (Lit (Prim_ W))
   state_literals states = if states == 31 then [] else yes (Prim_.State states) ∷ []
-
-  -- the number of the one protocol
-  abbrev pub number_of : Protocols → ℕ
-  number_of (Protocols.Only n) = n
-  number_of _ = 0
 
   -- the options of tcp or udp, of which the protocol is this
   abbrev pub own_literals : ℕ → Choice → List (Lit (Prim_ W))
