@@ -19,16 +19,15 @@ abbrev pub target_text : Bool → Option ℕ → Text
 target_text accept None = verdict_text accept
 target_text accept (Some n) = helper_name n
 
-module _ {W : ℕ} where
-  -- the line that declares a rule's helper chain
-  abbrev pub declared_helper : Option ℕ → List (List Word)
-  declared_helper None = []
-  declared_helper (Some n) = chain_words (helper_name n) None ∷ []
+-- the line that declares a rule's helper chain
+abbrev pub declared_helper : Option ℕ → List (List Word)
+declared_helper None = []
+declared_helper (Some n) = chain_words (helper_name n) None ∷ []
 
-  -- the lines of a rule's helper chain
-  abbrev pub lines_of_helper : SimpleRule W → Option ℕ → List (List Word)
-  lines_of_helper rule None = []
-  lines_of_helper rule (Some n) = helper_lines (helper_name n) rule
+-- the lines of a rule's helper chain
+abbrev pub lines_of_helper : {W : ℕ} → SimpleRule W → Option ℕ → List (List Word)
+lines_of_helper rule None = []
+lines_of_helper rule (Some n) = helper_lines (helper_name n) rule
 
 -- `text_of` is the one text of an address of `W` bits
 module _ (text_of : ℕ → Text) (W : ℕ) where
@@ -47,7 +46,7 @@ module _ (text_of : ℕ → Text) (W : ℕ) where
   abbrev pub all_lines : Text → Verdict → List (HelpedRule W) → List (List Word)
   all_lines chain policy rules =
       (bare (codes "*filter") ∷ []) ∷ chain_words chain (Some policy) ∷
-      (flat_map (λ helped. declared_helper {W = W} helped.helper) rules ++ (all_rule_lines chain rules ++ (bare (codes "COMMIT") ∷ []) ∷ []))
+      (flat_map (λ helped. declared_helper helped.helper) rules ++ (all_rule_lines chain rules ++ (bare (codes "COMMIT") ∷ []) ∷ []))
 
   -- the text of a chain with this policy and these rules
   abbrev pub printed : Text → Verdict → List (SimpleRule W) → Text
