@@ -3,18 +3,7 @@
 the next. It asserts nothing.
 
     python3 bench/check.py [PROGRAM]"""
-import os
-import subprocess
-import sys
-import tempfile
-
-TOP = os.path.dirname(os.path.dirname(os.path.abspath(__file__)))
-MOST = 16_777_216
-HEAD, TAIL = b"*filter\n:FORWARD DROP [0:0]\n", b"COMMIT\n"
-
-
-def wrapped(*parts):
-    return b"".join((HEAD, *parts, TAIL))
+from measure import HEAD, MOST, TAIL, measure, wrapped
 
 
 def rules(line, share):
@@ -48,26 +37,4 @@ FAMILIES = [
     ("a chain that calls many", lambda share: wrapped(chains(int(100_000 * share)), b"".join(b"-A FORWARD -j c%d\n" % number for number in range(int(100_000 * share))))),
 ]
 
-
-def timed(program, text):
-    with tempfile.TemporaryFile() as given:
-        given.write(text)
-        given.seek(0)
-        done = subprocess.run(["/usr/bin/time", "-q", "-f", "%e %M", program, "check"], stdin=given, capture_output=True)
-    seconds, memory = done.stderr.split()[-2:]
-    return done.returncode, float(seconds), int(memory) / 1024
-
-
-def main(program):
-    print(f"{'dump':40} {'bytes':>12} {'status':>6} {'seconds':>8} {'MiB':>7} {'growth':>7}")
-    for name, make in FAMILIES:
-        before = None
-        for share in (0.25, 0.5, 1):
-            text = make(share)
-            status, seconds, memory = timed(program, text)
-            growth = f"{seconds / before:7.2f}" if before else ""
-            before = seconds
-            print(f"{name:40} {len(text):12,} {status:6} {seconds:8.2f} {memory:7.0f} {growth}")
-
-
-main(sys.argv[1] if len(sys.argv) > 1 else f"{TOP}/crates/fffuu/out/fffuu")
+measure([(name, "check", make) for name, make in FAMILIES])

@@ -1,0 +1,182 @@
+"""Worked cases of `upper`, `lower` and `explain`, each with the bytes that are wanted, and inputs at the limits."""
+
+
+def wrapped(*lines):
+    return "*filter\n" + "".join(line + "\n" for line in lines) + "COMMIT\n"
+
+
+def forward(*rules, policy="DROP"):
+    """A chain FORWARD with these rules, its first line."""
+    return wrapped(f":FORWARD {policy} [0:0]", *(f"-A FORWARD {rule}" for rule in rules))
+
+
+def calling(*rules, returns="C"):
+    """A chain FORWARD that calls C, and the rules of C."""
+    return wrapped(":FORWARD DROP [0:0]", f":{returns} - [0:0]", f"-A FORWARD -j {returns}", *(f"-A {returns} {rule}" for rule in rules))
+
+
+USAGE = "fffuu: usage: fffuu MODE [--chain NAME] [--family 4|6] [--side upper|lower] [ARGS]\n"
+LAST6 = "ffff:ffff:ffff:ffff:ffff:ffff:ffff:ffff/128"
+LIMITED_TCP = forward("-p tcp -m limit --limit 1/sec -j ACCEPT")
+RECENT_DROP = forward("-m recent --rcheck --name DEFAULT -j DROP", "-j ACCEPT")
+DOUBTFUL_RETURN = wrapped(":FORWARD DROP [0:0]", ":C - [0:0]", "-A FORWARD -j C", "-A FORWARD -j DROP",
+                          "-A C -m addrtype --dst-type LOCAL -j RETURN", "-A C -s 10.0.0.0/8 -j DROP", "-A C -s 10.0.0.0/8 -j ACCEPT")
+DOUBTFUL_CALL = wrapped(":FORWARD DROP [0:0]", ":BLOCK - [0:0]", "-A FORWARD -m set --match-set bad src -j BLOCK", "-A FORWARD -j ACCEPT",
+                        "-A BLOCK -j DROP")
+LIMITED_ACCEPT = wrapped(":FORWARD DROP [0:0]", ":L - [0:0]", "-A FORWARD -j L", "-A FORWARD -j L", "-A L -m limit --limit 5/min -j ACCEPT")
+MANY_CALLS = wrapped(":FORWARD DROP [0:0]", ":C - [0:0]", *["-A FORWARD -m limit --limit 1/sec -j C"] * 64,
+                     "-A C -m limit --limit 1/sec -j RETURN")
+TWO_NAMES = wrapped(":FORWARD DROP [0:0]", ":C1 - [0:0]", "-A FORWARD -j C1", "-A C1 -i eth0 -j RETURN", "-A C1 -i eth1 -j RETURN",
+                    "-A C1 -j ACCEPT")
+
+
+def doubling(count):
+    """Chains of which each calls the next one twice."""
+    chains = [f":D{i} - [0:0]" for i in range(1, count + 1)]
+    calls = [f"-A D{i} -j D{i + 1}" for i in range(1, count) for _ in range(2)]
+    return wrapped(":FORWARD DROP [0:0]", *chains, "-A FORWARD -j D1", *calls, f"-A D{count} -j ACCEPT")
+
+
+def returning(count):
+    """A chain that returns for `count` protocols and accepts the others."""
+    return calling(*(f"-p {i} -j RETURN" for i in range(1, count + 1)), "-j ACCEPT")
+
+
+def malformed(line):
+    return 5, "", f"fffuu: line {line}: malformed\n"
+
+
+def limit(kind):
+    return 11, "", f"fffuu: limit {kind}\n"
+
+
+def prints(text):
+    return 0, text, ""
+
+
+PROTOCOL_NAMES = {1: "icmp", 2: "igmp", 6: "tcp", 17: "udp", 33: "dccp", 47: "gre", 50: "esp", 51: "ah", 58: "ipv6-icmp", 132: "sctp", 136: "udplite"}
+RETURN_LINES = [f"-A C1 -p {PROTOCOL_NAMES.get(i, i)} -j RETURN" for i in range(1, 256)]
+
+# name: words, text, and the status with what is written
+CASES = {
+    "a prefix rule comes back": ("upper", forward("-s 10.0.0.0/8 -j ACCEPT"), prints(forward("-s 10.0.0.0/8 -j ACCEPT"))),
+    "a chain without rules": ("upper", forward(), prints(forward())),
+    "counters are written as zero": ("upper", wrapped(":FORWARD ACCEPT [12:3456]"), prints(forward(policy="ACCEPT"))),
+    "the last address": ("upper", forward("-s 255.255.255.255/32 -j DROP", policy="ACCEPT"),
+                         prints(forward("-s 255.255.255.255/32 -j DROP", policy="ACCEPT"))),
+    "the last address of IPv6": ("upper --family 6", forward(f"-s {LAST6} -j DROP", policy="ACCEPT"),
+                                 prints(forward(f"-s {LAST6} -j DROP", policy="ACCEPT"))),
+    "bits past the length go out": ("upper", forward("-s 10.1.2.3/8 -d 0.0.0.0/0 -j ACCEPT"), prints(forward("-s 10.0.0.0/8 -j ACCEPT"))),
+    "a dotted tail is not written": ("upper --family 6", forward("-s 2001:DB8::/32 -d ::1.2.3.4 -j ACCEPT"),
+                                     prints(forward("-s 2001:db8::/32 -d ::102:304/128 -j ACCEPT"))),
+    "IPv6 addresses are written in one way": (
+        "upper --family 6",
+        forward("-s ::1.2.3.4/128 -j ACCEPT", "-d 2001:db8:0:0:1:0:0:1/128 -p icmpv6 -j ACCEPT",
+                "-m iprange --src-range 2001:db8::-2001:db8::ff -j ACCEPT"),
+        prints(forward("-s ::102:304/128 -j ACCEPT", "-d 2001:db8::1:0:0:1/128 -p ipv6-icmp -j ACCEPT", "-s 2001:db8::/120 -j ACCEPT"))),
+    "an unknown match of an accept may hold": ("upper", LIMITED_TCP, prints(forward("-p tcp -j ACCEPT"))),
+    "an unknown match of an accept need not hold": ("lower", LIMITED_TCP, prints(forward())),
+    "a doubtful drop is left out of upper": ("upper", RECENT_DROP, prints(forward("-j ACCEPT"))),
+    "a doubtful drop stands in lower": ("lower", RECENT_DROP, prints(forward("-j DROP", "-j ACCEPT"))),
+    "a doubtful return saves from no drop that stands alone": ("upper", DOUBTFUL_RETURN, prints(forward("-j DROP"))),
+    "in lower the drop behind a doubtful return stands": ("lower", DOUBTFUL_RETURN, prints(forward("-s 10.0.0.0/8 -j DROP", "-j DROP"))),
+    "a doubtful call of a drop is left out of upper": ("upper", DOUBTFUL_CALL, prints(forward("-j ACCEPT"))),
+    "a doubtful call of a drop stands in lower": ("lower", DOUBTFUL_CALL, prints(forward("-j DROP", "-j ACCEPT"))),
+    "a return in the asked chain is the policy": ("upper", forward("-j RETURN", "-j DROP", policy="ACCEPT"), prints(forward(policy="ACCEPT"))),
+    "a negated port is also another protocol": (
+        "upper", calling("-p tcp -m tcp ! --dport 22 -j RETURN", "-j ACCEPT"),
+        prints(forward("! -p tcp -j ACCEPT", "-p tcp -m tcp --dport 22 -j ACCEPT"))),
+    "two excluded names need a helper chain": (
+        "upper", calling("-i eth0 -j RETURN", "-i eth1 -j RETURN", "-j ACCEPT"), prints(TWO_NAMES)),
+    "a printed filter comes back": ("upper", TWO_NAMES, prints(TWO_NAMES)),
+    "a long list of ports takes two lines": (
+        "upper", forward("-p tcp -m multiport ! --dports 10,20,30,40,50,60,70,80 -j ACCEPT"),
+        prints(forward("-p tcp -m multiport --dports 0:9,11:19,21:29,31:39,41:49,51:59,61:69 -j ACCEPT",
+                       "-p tcp -m multiport --dports 71:79,81:65535 -j ACCEPT"))),
+    "one of the two ports": (
+        "upper", forward("-p udp -m multiport --ports 53 -j ACCEPT"),
+        prints(forward("-p udp -m udp --sport 53 -j ACCEPT", "-p udp -m udp --dport 53 -m multiport --sports 0:52,54:65535 -j ACCEPT"))),
+    "flags as cubes": (
+        "upper", forward("-p tcp -m tcp ! --syn -j DROP", policy="ACCEPT"),
+        prints(forward(*(f"-p tcp -m tcp --tcp-flags {flags} -j DROP" for flags in
+                         ("FIN,SYN NONE", "FIN,SYN,RST,ACK SYN,ACK", "FIN,SYN,RST SYN,RST", "FIN FIN")), policy="ACCEPT"))),
+    "a name with a blank stands in quotes": (
+        "upper", forward('-i "a b" -j ACCEPT', "-i + -m socket -j ACCEPT"), prints(forward('-i "a b" -j ACCEPT', "-j ACCEPT"))),
+    "all protocols but many": ("upper", returning(255), prints(wrapped(
+        ":FORWARD DROP [0:0]", ":C1 - [0:0]", "-A FORWARD -j C1", *RETURN_LINES, "-A C1 -j ACCEPT"))),
+    "an unsupported target in reach": (
+        "upper", calling("-j NFQUEUE --queue-num 1", returns="Q"), (9, "", "fffuu: line 5: unsupported target NFQUEUE\n")),
+    "an unsupported target out of reach": (
+        "upper", wrapped(":FORWARD DROP [0:0]", ":Q - [0:0]", "-A Q -j NFQUEUE --queue-num 1"), prints(forward())),
+    "a call loop": ("lower", calling("-j C"), (10, "", "fffuu: call loop through C\n")),
+    "a quote that is never closed": ("upper", forward('-m comment --comment "half -j ACCEPT'), malformed(3)),
+    "a mark behind its option": ("upper", forward("-s ! 10.0.0.0/8 -j DROP"), malformed(3)),
+    "every protocol negated": ("lower", forward("! -p all -j DROP"), malformed(3)),
+    "an option twice": ("upper", forward("-s 1.2.3.4/32 -s 1.2.3.5/32 -j DROP"), malformed(3)),
+    "a text that is cut in a line": ("upper", "*filter\n:FORWARD DROP [0:0]\n-A FORWARD -s 10.0.", malformed(3)),
+    "a text without COMMIT": ("upper", "*filter\n:FORWARD DROP [0:0]\n", malformed(3)),
+    "no filter table": ("lower", "*nat\nCOMMIT\n", (6, "", "fffuu: no filter table\n")),
+    "a rule of no declared chain": ("upper", wrapped(":FORWARD DROP [0:0]", "-A LOST -j ACCEPT"), (7, "", "fffuu: line 3: undefined chain\n")),
+    "a chain that is not there": ("upper --chain OUTPUT", forward(), (8, "", "fffuu: no chain OUTPUT\n")),
+    "the asked chain is another one": (
+        "lower --chain INPUT", wrapped(":INPUT ACCEPT [5:6]", ":FORWARD DROP [0:0]", "-A INPUT -p tcp -j DROP", "-A FORWARD -j ACCEPT"),
+        prints(wrapped(":INPUT ACCEPT [0:0]", "-A INPUT -p tcp -j DROP"))),
+    "upper takes no side": ("upper --side lower", forward(), (1, "", USAGE)),
+    "lower takes no arguments": ("lower x", forward(), (1, "", USAGE)),
+    "many doubtful calls": ("upper", MANY_CALLS, prints(forward())),
+    "many doubtful calls explained": ("explain", MANY_CALLS, prints("accept never\ndrop under 0\n")),
+    "one visit of a limited accept is enough": (
+        "explain src=10.0.0.1", LIMITED_ACCEPT, prints("accept under 1\nFORWARD 2 > L 1 literal 1\ndrop under 0\n")),
+    "a drop behind a doubtful return explained": ("explain src=10.0.0.1", DOUBTFUL_RETURN, prints("accept never\ndrop under 0\n")),
+    "doubling calls are too many visits": ("explain", doubling(24), limit("visits")),
+    "doubling calls are too many nodes": ("upper", doubling(18), limit("nodes")),
+}
+
+EXPLAIN_TEXT = forward("-j ACCEPT")
+# what no packet of `explain` is
+BAD_FIELDS = ["src", "src=", "src=1.2.3", "src=10.0.0.0/8", "src=::1", "dst=1.2.3.256", "proto=", "proto=256", "proto=all", "proto=TCP",
+              "sport=65536", "dport=http", "dport=-1", "dport=01", "flags=", "flags=SYN,", "flags=syn", "state=", "state=new", "state=NEW,RELATED",
+              "in=hex:6", "in=hex:6g", "out=hex:0", "mark=1", "=1", "SRC=1.1.1.1", "src=1.1.1.1 src=1.1.1.1", "in=a in=b", "flags=ACK flags=ACK"]
+GOOD_FIELDS = ["", "in=", "in=hex:", "in=hex:6A6b", "in=eth0=x", "out=a", "src=1.2.3.4 dst=255.255.255.255", "proto=tcp", "proto=0", "proto=255",
+               "sport=0 dport=65535", "flags=NONE", "flags=ALL", "flags=SYN,ACK", "flags=SYN,SYN", "state=INVALID", "state=UNTRACKED",
+               "in=a out=b src=1.1.1.1 dst=2.2.2.2 proto=6 sport=1 dport=2 flags=FIN state=NEW"]
+
+# at the limits: words, text, and a status with the last line on standard error, or the number of rule lines that are written
+ROUND = "-A FORWARD ! -s 10.0.0.0/8 -j ACCEPT"
+
+
+def many(count, line, *more):
+    return wrapped(":FORWARD DROP [0:0]", *[line] * count, *more)
+
+
+def sure_returns(count):
+    return wrapped(":FORWARD DROP [0:0]", ":C - [0:0]", "-A FORWARD -j C", *["-A C -p esp -j RETURN"] * count, *["-A C -j ACCEPT"] * 2048)
+
+
+def visited(*more):
+    return wrapped(":FORWARD DROP [0:0]", ":C - [0:0]", *["-A FORWARD -j C"] * 4096, *["-A C -s 1.1.1.1/32 -j DROP"] * 4095, *more)
+
+
+def boxes(returns):
+    """Returns that double the cubes; what is left is accepted."""
+    rules = [f"-s 10.0.0.{i}/32 -d 192.168.0.0/16 -j RETURN" for i in range(1, returns + 1)]
+    rules += [f"-p tcp -m tcp --sport {i} --dport 1 -j RETURN" for i in range(1, 128)]
+    lines = ["-A FORWARD -p tcp -j C", *(f"-A C {rule}" for rule in [*rules, "-j ACCEPT"])]
+    return wrapped(":FORWARD DROP [0:0]", ":C - [0:0]", *lines)
+
+
+LIMITS = {
+    "131,072 simple rules": ("upper", many(131_072, "-A FORWARD -j ACCEPT"), 131_072),
+    "131,073 simple rules": ("upper", many(131_073, "-A FORWARD -j ACCEPT"), limit("rules")),
+    "262,144 nodes": ("upper", many(262_144, "-A FORWARD -j ACCEPT"), limit("rules")),
+    "262,145 nodes": ("upper", many(262_145, "-A FORWARD -j ACCEPT"), limit("nodes")),
+    "262,144 rule lines": ("upper", many(131_072, ROUND), 262_144),
+    "262,146 rule lines": ("upper", many(131_071, ROUND, "-A FORWARD ! -s 10.0.0.0/8 ! -d 10.0.0.0/8 -j ACCEPT"), limit("lines")),
+    "4,194,304 literals": ("upper", sure_returns(2048), 2048),
+    "more literals": ("upper", sure_returns(2049), limit("literals")),
+    "16,384 cubes": ("upper", boxes(127), 32_768),
+    "16,512 cubes": ("upper", boxes(128), limit("boxes")),
+    "calls that double 17 times": ("upper", doubling(17), 65_536),
+    "16,777,216 visits": ("explain src=2.2.2.2", visited(), prints("accept never\ndrop under 0\n")),
+    "16,777,217 visits": ("explain src=2.2.2.2", visited("-A FORWARD -j ACCEPT"), limit("visits")),
+}
