@@ -1,5 +1,5 @@
 -- What a reader keeps of the lines so far. The contracts of private functions cite this.
-use Rattle.std.specs.Prelude.{ℕ, ◌+◌, ◌<◌, ◌^◌, ◌≡◌, Bool, true, false, List, [], ◌∷◌, ◌++◌, Option, Some, None, length}
+use Rattle.std.specs.Prelude.{ℕ, ◌+◌, ◌≤◌, ◌≡◌, Bool, true, false, List, [], ◌∷◌, ◌++◌, Option, Some, None, length}
 use Rattle.std.specs.List.{AllByRecursion}
 use Rattle.primitives.specs.declared.prim.Prim_.{Prim_}
 use Rattle.fw_rule.specs.declared.rule.Rule.{Rule}
@@ -29,7 +29,7 @@ with_rule here rule = record { name = here.name; policy = here.policy; rules = h
 module _ {W : ℕ} where
   -- the literals of the rule can be counted and printed
   abbrev pub IsWritable : RuleLine W → Type 0
-  IsWritable rule = (length rule.literals < 2 ^ 32) × AllByRecursion IsPrintableLiteral rule.literals
+  IsWritable rule = (length rule.literals ≤ 16777216) × AllByRecursion IsPrintableLiteral rule.literals
 
   -- so can those of each rule
   abbrev pub AreWritable : List (Placed W) → Type 0

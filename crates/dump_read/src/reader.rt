@@ -2,7 +2,7 @@ ghost use Rattle.std.specs.Prelude.{◌≡◌, ◌≤◌, ◌<◌, ℕ, IfErr, I
 ghost use Rattle.fw_rule.specs.Calls.{HasRoom};
 ghost use Rattle.interval_set.specs.Numbers.{IsWidth};
 ghost use Rattle.dump_grammar.specs.Reads.{IsDump};
-ghost use Rattle.dump_read.specs.Answers.{IsFaultOf, IsPrintableDump};
+ghost use Rattle.dump_read.specs.Answers.{HasAtMost, IsFaultOf, IsPrintableDump};
 ghost use Rattle.dump_read.specs.Positions.{Position};
 ghost use Rattle.dump_read.specs.States.{EndsAs, EndsWith, Shows};
 
@@ -37,7 +37,8 @@ fn finish<const W: u32>(state: Reading<W>, lines: u32) -> Result<Dump<Prim_<W>>,
     })
 }
 
-/// The dump that a text of at most 16,777,216 bytes is.
+/// The dump that a text of at most 16,777,216 bytes is. It has at most so many chains, each chain so many rules, and each
+/// rule so many literals.
 ///
 /// # Errors
 ///
@@ -52,6 +53,7 @@ pub fn read_dump<F: Family<W>, const W: u32>(
     requires size { length text.now ≤ 16777216 }
     ensures ok { IfOk result (IsDump W F.Reads text.now) }
     ensures fault { IfErr result (IsFaultOf W F.Reads text.now) }
+    ensures few { IfOk result (HasAtMost 16777216) }
     ensures room { IfOk result HasRoom }
     ensures printable { IfOk result IsPrintableDump }
 {

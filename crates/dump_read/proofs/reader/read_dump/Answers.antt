@@ -2,7 +2,7 @@ use Rattle.std.proofs.Common.{arith, lit<}
 use Rattle.std.proofs.lemmas.Result.{IfOk-weaker, IfErr-weaker}
 use Rattle.dump_grammar.proofs.PolicyLemmas.{one_chain_line}
 use Rattle.dump_read.proofs.Readers.{one_rule, width_most}
-use Rattle.dump_read.proofs.ReadLemmas.{read_few, read_count, read_more, read_dump_of, read_room, read_printable, read_malformed, read_fault}
+use Rattle.dump_read.proofs.ReadLemmas.{read_few, read_count, read_more, read_dump_of, read_small, small_room, read_printable, read_malformed, read_fault}
 use Rattle.dump_read.proofs.reader.read_dump.Goals as goal
 
 pub take_line-requires : goal.take_line-requires
@@ -33,10 +33,15 @@ returns-clause-fault g c =
     read_fault g.row.W g.F.Family.Reads one_chain_line (one_rule g.row.W g.F.Family.Reads (record { one = g.met.F.Family.one; plain = g.met.F.Family.plain; not_number = g.met.F.Family.not_number }) (width_most g.row.W c.requires.width)) c.loop-line.state c.args.text.now c.loop-line.rest.now c.loop-line.lines fault c.loop-line.invariant
     c.in_default.ensures.none ends) c.finish.ensures.fault
 
+pub returns-clause-few : goal.returns-clause-few
+returns-clause-few g c =
+    IfOk-weaker c.finish.result _ _ (λ dump answers.
+    read_small g.row.W g.F.Family.Reads c.loop-line.state c.args.text.now c.loop-line.rest.now c.loop-line.lines dump c.loop-line.invariant c.requires.size answers) c.finish.ensures.ok
+
 pub returns-clause-room : goal.returns-clause-room
 returns-clause-room g c =
-    IfOk-weaker c.finish.result _ _ (λ dump answers.
-    read_room g.row.W g.F.Family.Reads c.loop-line.state c.args.text.now c.loop-line.rest.now c.loop-line.lines dump c.loop-line.invariant c.requires.size answers) c.finish.ensures.ok
+    IfOk-weaker c.finish.result _ _ (λ dump answers. small_room g.row.W g.F.Family.Reads dump
+    (read_small g.row.W g.F.Family.Reads c.loop-line.state c.args.text.now c.loop-line.rest.now c.loop-line.lines dump c.loop-line.invariant c.requires.size answers)) c.finish.ensures.ok
 
 pub returns-clause-printable : goal.returns-clause-printable
 returns-clause-printable g c =
