@@ -152,107 +152,132 @@ and_states a b h = let e = and_le_l a b in omega (arith, e, h)
 pub less_states : (a b : ℕ) → a < 32 → bit_xor a (bit_and a b) < 32
 less_states a b h = xor_lt 5 a (bit_and a b) h (and_states a b h)
 
--- the bits of states, and a fact of both names
-pub record Fits {W : ℕ} (N : NameSet → Type 0) (c : Cube W) : Type 0 where
-  pub states : HasStates c
+-- a fact of the states, and one of both names
+pub record Fits {W : ℕ} (S : ℕ → Type 0) (N : NameSet → Type 0) (c : Cube W) : Type 0 where
+  pub states : S c.state
   pub in_name : N c.in_name
   pub out_name : N c.out_name
 
-module _ {W : ℕ} (N : NameSet → Type 0) (c : Cube W) (h : Fits N c) where
-  same_fits : (d : Cube W) → d.in_name ≡ c.in_name → d.out_name ≡ c.out_name → d.state < 32 → AllByRecursion (Fits N) (kept d)
-  same_fits d e f g = kept_all (Fits N) d (λ _. record { states = g; in_name = subst N (sym e) h.in_name; out_name = subst N (sym f) h.out_name })
+module _ {W : ℕ} (S : ℕ → Type 0) (N : NameSet → Type 0) (c : Cube W) (h : Fits S N c) where
+  same_fits : (d : Cube W) → d.in_name ≡ c.in_name → d.out_name ≡ c.out_name → S d.state → AllByRecursion (Fits S N) (kept d)
+  same_fits d e f g = kept_all (Fits S N) d (λ _. record { states = g; in_name = subst N (sym e) h.in_name; out_name = subst N (sym f) h.out_name })
 
-  in_fits : (o : Option NameSet) → OnName N o → AllByRecursion (Fits N) (kept_in c o)
+  in_fits : (o : Option NameSet) → OnName N o → AllByRecursion (Fits S N) (kept_in c o)
   in_fits None k = tt
-  in_fits (Some s) k = kept_all (Fits N) (record c { in_name = s }) (λ _. record { states = h.states; in_name = k; out_name = h.out_name })
+  in_fits (Some s) k = kept_all (Fits S N) (record c { in_name = s }) (λ _. record { states = h.states; in_name = k; out_name = h.out_name })
 
-  out_fits : (o : Option NameSet) → OnName N o → AllByRecursion (Fits N) (kept_out c o)
+  out_fits : (o : Option NameSet) → OnName N o → AllByRecursion (Fits S N) (kept_out c o)
   out_fits None k = tt
-  out_fits (Some s) k = kept_all (Fits N) (record c { out_name = s }) (λ _. record { states = h.states; in_name = h.in_name; out_name = k })
+  out_fits (Some s) k = kept_all (Fits S N) (record c { out_name = s }) (λ _. record { states = h.states; in_name = h.in_name; out_name = k })
 
-module _ (N : NameSet → Type 0) (ps : List Pattern)
+module _ (S : ℕ → Type 0) (N : NameSet → Type 0) (ps : List Pattern)
+    (s_cut : (a b : ℕ) → S a → S (bit_and a b))
+    (s_omit : (a b : ℕ) → S a → S (bit_xor a (bit_and a b)))
     (n_cut : (s : NameSet) (by : Pattern) → N s → Contains ps by → OnName N (cut_of s by))
     (n_omit : (s : NameSet) (by : Pattern) → N s → Contains ps by → OnName N (cut_not_of s by)) where
-  pub cut_fits : {W : ℕ} (x : Prim_ W) → AllIn ps (patterns_in x) → (c : Cube W) → Fits N c → AllByRecursion (Fits N) (cut_pieces x c)
-  cut_fits {W} (Prim_.Src set) k c h = same_fits N c h (record c { src = set_and W c.src set }) refl refl h.states
-  cut_fits {W} (Prim_.Dst set) k c h = same_fits N c h (record c { dst = set_and W c.dst set }) refl refl h.states
-  cut_fits (Prim_.InName by) k c h = in_fits N c h (cut_of c.in_name by) (n_cut c.in_name by h.in_name k.0)
-  cut_fits (Prim_.OutName by) k c h = out_fits N c h (cut_of c.out_name by) (n_cut c.out_name by h.out_name k.0)
-  cut_fits (Prim_.Proto proto) k c h = same_fits N c h (record c { proto = set_and 8 c.proto (single proto) }) refl refl h.states
-  cut_fits (Prim_.SrcPorts ports) k c h = same_fits N c h (record c { proto = set_and 8 c.proto (single ports.proto); sport = set_and 16 c.sport ports.set }) refl refl h.states
-  cut_fits (Prim_.DstPorts ports) k c h = same_fits N c h (record c { proto = set_and 8 c.proto (single ports.proto); dport = set_and 16 c.dport ports.set }) refl refl h.states
-  cut_fits (Prim_.Flags mask comp) k c h = same_fits N c h (record c { proto = set_and 8 c.proto (single 6); flags = bit_and c.flags (flags_where mask comp 64) }) refl refl h.states
-  cut_fits (Prim_.State states) k c h = same_fits N c h (record c { state = bit_and c.state states }) refl refl (and_states c.state states h.states)
-  cut_fits Prim_.Always k c h = same_fits N c h c refl refl h.states
+  pub cut_fits : {W : ℕ} (x : Prim_ W) → AllIn ps (patterns_in x) → (c : Cube W) → Fits S N c → AllByRecursion (Fits S N) (cut_pieces x c)
+  cut_fits {W} (Prim_.Src set) k c h = same_fits S N c h (record c { src = set_and W c.src set }) refl refl h.states
+  cut_fits {W} (Prim_.Dst set) k c h = same_fits S N c h (record c { dst = set_and W c.dst set }) refl refl h.states
+  cut_fits (Prim_.InName by) k c h = in_fits S N c h (cut_of c.in_name by) (n_cut c.in_name by h.in_name k.0)
+  cut_fits (Prim_.OutName by) k c h = out_fits S N c h (cut_of c.out_name by) (n_cut c.out_name by h.out_name k.0)
+  cut_fits (Prim_.Proto proto) k c h = same_fits S N c h (record c { proto = set_and 8 c.proto (single proto) }) refl refl h.states
+  cut_fits (Prim_.SrcPorts ports) k c h = same_fits S N c h (record c { proto = set_and 8 c.proto (single ports.proto); sport = set_and 16 c.sport ports.set }) refl refl h.states
+  cut_fits (Prim_.DstPorts ports) k c h = same_fits S N c h (record c { proto = set_and 8 c.proto (single ports.proto); dport = set_and 16 c.dport ports.set }) refl refl h.states
+  cut_fits (Prim_.Flags mask comp) k c h = same_fits S N c h (record c { proto = set_and 8 c.proto (single 6); flags = bit_and c.flags (flags_where mask comp 64) }) refl refl h.states
+  cut_fits (Prim_.State states) k c h = same_fits S N c h (record c { state = bit_and c.state states }) refl refl (s_cut c.state states h.states)
+  cut_fits Prim_.Always k c h = same_fits S N c h c refl refl h.states
 
-  pub omit_fits : {W : ℕ} (x : Prim_ W) → AllIn ps (patterns_in x) → (c : Cube W) → Fits N c → AllByRecursion (Fits N) (omit_pieces x c)
-  omit_fits {W} (Prim_.Src set) k c h = same_fits N c h (record c { src = set_minus W c.src set }) refl refl h.states
-  omit_fits {W} (Prim_.Dst set) k c h = same_fits N c h (record c { dst = set_minus W c.dst set }) refl refl h.states
-  omit_fits (Prim_.InName by) k c h = in_fits N c h (cut_not_of c.in_name by) (n_omit c.in_name by h.in_name k.0)
-  omit_fits (Prim_.OutName by) k c h = out_fits N c h (cut_not_of c.out_name by) (n_omit c.out_name by h.out_name k.0)
-  omit_fits (Prim_.Proto proto) k c h = same_fits N c h (record c { proto = set_minus 8 c.proto (single proto) }) refl refl h.states
+  pub omit_fits : {W : ℕ} (x : Prim_ W) → AllIn ps (patterns_in x) → (c : Cube W) → Fits S N c → AllByRecursion (Fits S N) (omit_pieces x c)
+  omit_fits {W} (Prim_.Src set) k c h = same_fits S N c h (record c { src = set_minus W c.src set }) refl refl h.states
+  omit_fits {W} (Prim_.Dst set) k c h = same_fits S N c h (record c { dst = set_minus W c.dst set }) refl refl h.states
+  omit_fits (Prim_.InName by) k c h = in_fits S N c h (cut_not_of c.in_name by) (n_omit c.in_name by h.in_name k.0)
+  omit_fits (Prim_.OutName by) k c h = out_fits S N c h (cut_not_of c.out_name by) (n_omit c.out_name by h.out_name k.0)
+  omit_fits (Prim_.Proto proto) k c h = same_fits S N c h (record c { proto = set_minus 8 c.proto (single proto) }) refl refl h.states
   omit_fits (Prim_.SrcPorts ports) k c h =
-      all_append (Fits N) (kept (record c { proto = set_minus 8 c.proto (single ports.proto) })) (kept (record c { proto = set_and 8 c.proto (single ports.proto); sport = set_minus 16 c.sport ports.set }))
-      (same_fits N c h (record c { proto = set_minus 8 c.proto (single ports.proto) }) refl refl h.states)
-      (same_fits N c h (record c { proto = set_and 8 c.proto (single ports.proto); sport = set_minus 16 c.sport ports.set }) refl refl h.states)
+      all_append (Fits S N) (kept (record c { proto = set_minus 8 c.proto (single ports.proto) })) (kept (record c { proto = set_and 8 c.proto (single ports.proto); sport = set_minus 16 c.sport ports.set }))
+      (same_fits S N c h (record c { proto = set_minus 8 c.proto (single ports.proto) }) refl refl h.states)
+      (same_fits S N c h (record c { proto = set_and 8 c.proto (single ports.proto); sport = set_minus 16 c.sport ports.set }) refl refl h.states)
   omit_fits (Prim_.DstPorts ports) k c h =
-      all_append (Fits N) (kept (record c { proto = set_minus 8 c.proto (single ports.proto) })) (kept (record c { proto = set_and 8 c.proto (single ports.proto); dport = set_minus 16 c.dport ports.set }))
-      (same_fits N c h (record c { proto = set_minus 8 c.proto (single ports.proto) }) refl refl h.states)
-      (same_fits N c h (record c { proto = set_and 8 c.proto (single ports.proto); dport = set_minus 16 c.dport ports.set }) refl refl h.states)
+      all_append (Fits S N) (kept (record c { proto = set_minus 8 c.proto (single ports.proto) })) (kept (record c { proto = set_and 8 c.proto (single ports.proto); dport = set_minus 16 c.dport ports.set }))
+      (same_fits S N c h (record c { proto = set_minus 8 c.proto (single ports.proto) }) refl refl h.states)
+      (same_fits S N c h (record c { proto = set_and 8 c.proto (single ports.proto); dport = set_minus 16 c.dport ports.set }) refl refl h.states)
   omit_fits (Prim_.Flags mask comp) k c h =
-      all_append (Fits N) (kept (record c { proto = set_minus 8 c.proto (single 6) })) (kept (record c { proto = set_and 8 c.proto (single 6); flags = bit_xor c.flags (bit_and c.flags (flags_where mask comp 64)) }))
-      (same_fits N c h (record c { proto = set_minus 8 c.proto (single 6) }) refl refl h.states)
-      (same_fits N c h (record c { proto = set_and 8 c.proto (single 6); flags = bit_xor c.flags (bit_and c.flags (flags_where mask comp 64)) }) refl refl h.states)
-  omit_fits (Prim_.State states) k c h = same_fits N c h (record c { state = bit_xor c.state (bit_and c.state states) }) refl refl (less_states c.state states h.states)
+      all_append (Fits S N) (kept (record c { proto = set_minus 8 c.proto (single 6) })) (kept (record c { proto = set_and 8 c.proto (single 6); flags = bit_xor c.flags (bit_and c.flags (flags_where mask comp 64)) }))
+      (same_fits S N c h (record c { proto = set_minus 8 c.proto (single 6) }) refl refl h.states)
+      (same_fits S N c h (record c { proto = set_and 8 c.proto (single 6); flags = bit_xor c.flags (bit_and c.flags (flags_where mask comp 64)) }) refl refl h.states)
+  omit_fits (Prim_.State states) k c h = same_fits S N c h (record c { state = bit_xor c.state (bit_and c.state states) }) refl refl (s_omit c.state states h.states)
   omit_fits Prim_.Always k c h = tt
 
   -- the cuts by an expression of these patterns
-  pub cuts_fit : (W : ℕ) (e : Expr (Prim_ W)) → AllIn ps (patterns_of {W = W} e) → Stays (Fits N) ps cut_fits omit_fits (cuts_by {W = W} e)
-  cuts_fit W e h = cuts_stay (Fits N) ps cut_fits omit_fits e h
+  pub cuts_fit : (W : ℕ) (e : Expr (Prim_ W)) → AllIn ps (patterns_of {W = W} e) → Stays (Fits S N) ps cut_fits omit_fits (cuts_by {W = W} e)
+  cuts_fit W e h = cuts_stay (Fits S N) ps cut_fits omit_fits e h
 
-  verdict_fits : {W : ℕ} (b : Bool) (cs : List (Cube W)) → AllByRecursion (Fits N) cs → EachCube (Fits N) (with_verdict b cs)
+  verdict_fits : {W : ℕ} (b : Bool) (cs : List (Cube W)) → AllByRecursion (Fits S N) cs → EachCube (Fits S N) (with_verdict b cs)
   verdict_fits b [] h = tt
   verdict_fits b (c ∷ cs) h = (h.0, verdict_fits b cs h.1)
 
-  pub normal_fits : (W : ℕ) → Fits N (whole_of W) → (rules : List (FlatRule (Prim_ W))) → AllIn ps (rule_patterns rules) → EachCube (Fits N) (normal_of rules)
+  pub normal_fits : (W : ℕ) → Fits S N (whole_of W) → (rules : List (FlatRule (Prim_ W))) → AllIn ps (rule_patterns rules) → EachCube (Fits S N) (normal_of rules)
   normal_fits W f [] h = tt
   normal_fits W f (rule ∷ rules) h =
-      all_append (λ (r : SimpleRule W). Fits N r.cube) (with_verdict rule.accept ((cuts_by {W = W} rule.expr).keep (whole_of W ∷ [])).list) (normal_of rules)
+      all_append (λ (r : SimpleRule W). Fits S N r.cube) (with_verdict rule.accept ((cuts_by {W = W} rule.expr).keep (whole_of W ∷ [])).list) (normal_of rules)
       (verdict_fits rule.accept ((cuts_by {W = W} rule.expr).keep (whole_of W ∷ [])).list ((cuts_fit W rule.expr (all_left (Contains ps) (patterns_of {W = W} rule.expr) (rule_patterns rules) h)).keep (whole_of W ∷ []) (f, tt)))
       (normal_fits W f rules (all_right (Contains ps) (patterns_of {W = W} rule.expr) (rule_patterns rules) h))
 
 -- the bits of states alone
-abbrev Any : NameSet → Type 0
-Any s = Unit {0}
+abbrev Low : ℕ → Type 0
+Low state = state < 32
 
-any_name : (o : Option NameSet) → OnName Any o
+abbrev AnyName : NameSet → Type 0
+AnyName s = Unit {0}
+
+any_name : (o : Option NameSet) → OnName AnyName o
 any_name None = tt
 any_name (Some s) = tt
 
-to_states : {W : ℕ} (l : List (Cube W)) → AllByRecursion (Fits Any) l → AllByRecursion HasStates l
-to_states l h = all_map (Fits Any) HasStates (λ c f. f.states) l h
+to_states : {W : ℕ} (l : List (Cube W)) → AllByRecursion (Fits Low AnyName) l → AllByRecursion HasStates l
+to_states l h = all_map (Fits Low AnyName) HasStates (λ c f. f.states) l h
 
-from_states : {W : ℕ} (l : List (Cube W)) → AllByRecursion HasStates l → AllByRecursion (Fits Any) l
-from_states l h = all_map HasStates (Fits Any) (λ c s. record { states = s; in_name = tt; out_name = tt }) l h
+from_states : {W : ℕ} (l : List (Cube W)) → AllByRecursion HasStates l → AllByRecursion (Fits Low AnyName) l
+from_states l h = all_map HasStates (Fits Low AnyName) (λ c s. record { states = s; in_name = tt; out_name = tt }) l h
 
 module _ (W : ℕ) (e : Expr (Prim_ W)) (l : List (Cube W)) (h : AllByRecursion HasStates l) where
   pub keep_states : AllByRecursion HasStates ((cuts_by {W = W} e).keep l).list
-  keep_states = to_states ((cuts_by {W = W} e).keep l).list ((cuts_fit Any (patterns_of {W = W} e) (λ s by _ _. any_name (cut_of s by)) (λ s by _ _. any_name (cut_not_of s by)) W e (all_self (patterns_of {W = W} e))).keep l (from_states l h))
+  keep_states = to_states ((cuts_by {W = W} e).keep l).list ((cuts_fit Low AnyName (patterns_of {W = W} e) and_states less_states (λ s by _ _. any_name (cut_of s by)) (λ s by _ _. any_name (cut_not_of s by)) W e (all_self (patterns_of {W = W} e))).keep l (from_states l h))
 
   pub omit_states : AllByRecursion HasStates ((cuts_by {W = W} e).omit l).list
-  omit_states = to_states ((cuts_by {W = W} e).omit l).list ((cuts_fit Any (patterns_of {W = W} e) (λ s by _ _. any_name (cut_of s by)) (λ s by _ _. any_name (cut_not_of s by)) W e (all_self (patterns_of {W = W} e))).omit l (from_states l h))
+  omit_states = to_states ((cuts_by {W = W} e).omit l).list ((cuts_fit Low AnyName (patterns_of {W = W} e) and_states less_states (λ s by _ _. any_name (cut_of s by)) (λ s by _ _. any_name (cut_not_of s by)) W e (all_self (patterns_of {W = W} e))).omit l (from_states l h))
+
+-- the names alone
+abbrev AnyState : ℕ → Type 0
+AnyState state = Unit {0}
+
+to_names : {W : ℕ} (ps : List Pattern) (l : List (Cube W)) → AllByRecursion (Fits AnyState (IsOf ps)) l → AllByRecursion (NamesAreOf ps) l
+to_names ps l h = all_map (Fits AnyState (IsOf ps)) (NamesAreOf ps) (λ c f. record { in_name = f.in_name; out_name = f.out_name }) l h
+
+from_names : {W : ℕ} (ps : List Pattern) (l : List (Cube W)) → AllByRecursion (NamesAreOf ps) l → AllByRecursion (Fits AnyState (IsOf ps)) l
+from_names ps l h = all_map (NamesAreOf ps) (Fits AnyState (IsOf ps)) (λ c f. record { states = tt; in_name = f.in_name; out_name = f.out_name }) l h
+
+module _ (W : ℕ) (e : Expr (Prim_ W)) (ps : List Pattern) (k : AllIn ps (patterns_of {W = W} e)) (l : List (Cube W)) (h : AllByRecursion (NamesAreOf ps) l) where
+  pub keep_names : AllByRecursion (NamesAreOf ps) ((cuts_by {W = W} e).keep l).list
+  keep_names = to_names ps ((cuts_by {W = W} e).keep l).list
+      ((cuts_fit AnyState (IsOf ps) ps (λ a b _. tt) (λ a b _. tt) (λ s by h k. cut_is_of ps s by h k) (λ s by h k. cut_not_is_of ps s by h k) W e k).keep l (from_names ps l h))
+
+  pub omit_names : AllByRecursion (NamesAreOf ps) ((cuts_by {W = W} e).omit l).list
+  omit_names = to_names ps ((cuts_by {W = W} e).omit l).list
+      ((cuts_fit AnyState (IsOf ps) ps (λ a b _. tt) (λ a b _. tt) (λ s by h k. cut_is_of ps s by h k) (λ s by h k. cut_not_is_of ps s by h k) W e k).omit l (from_names ps l h))
 
 -- the cubes of the normal form
 whole_names : (ps : List Pattern) → IsOf ps (record { base = Pattern.Prefix []; excluded = [] })
 whole_names ps = record { base = inl refl; excluded = tt }
 
-normal_all : (W : ℕ) (rules : List (FlatRule (Prim_ W))) → EachCube (Fits (IsOf (rule_patterns rules))) (normal_of rules)
-normal_all W rules = normal_fits (IsOf (rule_patterns rules)) (rule_patterns rules) (λ s by h k. cut_is_of (rule_patterns rules) s by h k) (λ s by h k. cut_not_is_of (rule_patterns rules) s by h k) W
+normal_all : (W : ℕ) (rules : List (FlatRule (Prim_ W))) → EachCube (Fits Low (IsOf (rule_patterns rules))) (normal_of rules)
+normal_all W rules = normal_fits Low (IsOf (rule_patterns rules)) (rule_patterns rules) and_states less_states
+    (λ s by h k. cut_is_of (rule_patterns rules) s by h k) (λ s by h k. cut_not_is_of (rule_patterns rules) s by h k) W
     (record { states = omega arith; in_name = whole_names (rule_patterns rules); out_name = whole_names (rule_patterns rules) }) rules (all_self (rule_patterns rules))
 
 pub normal_states : (W : ℕ) (rules : List (FlatRule (Prim_ W))) → EachCube HasStates (normal_of rules)
-normal_states W rules = all_map (λ (r : SimpleRule W). Fits (IsOf (rule_patterns rules)) r.cube) (λ (r : SimpleRule W). HasStates r.cube) (λ r f. f.states) (normal_of rules) (normal_all W rules)
+normal_states W rules = all_map (λ (r : SimpleRule W). Fits Low (IsOf (rule_patterns rules)) r.cube) (λ (r : SimpleRule W). HasStates r.cube) (λ r f. f.states) (normal_of rules) (normal_all W rules)
 
 pub normal_patterns : (W : ℕ) (rules : List (FlatRule (Prim_ W))) → EachCube (NamesAreOf (rule_patterns rules)) (normal_of rules)
-normal_patterns W rules = all_map (λ (r : SimpleRule W). Fits (IsOf (rule_patterns rules)) r.cube) (λ (r : SimpleRule W). NamesAreOf (rule_patterns rules) r.cube)
+normal_patterns W rules = all_map (λ (r : SimpleRule W). Fits Low (IsOf (rule_patterns rules)) r.cube) (λ (r : SimpleRule W). NamesAreOf (rule_patterns rules) r.cube)
     (λ r f. record { in_name = f.in_name; out_name = f.out_name }) (normal_of rules) (normal_all W rules)

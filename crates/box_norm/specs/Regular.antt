@@ -1,5 +1,5 @@
 -- Regular cubes, and where the patterns in their names come from.
-use Rattle.std.specs.Prelude.{ℕ, ◌-◌, ◌^◌, ◌<◌, ◌≤◌, ◌≡◌, ⊤, ◌⊎◌, List, [], ◌∷◌, ◌++◌, true, false, Contains}
+use Rattle.std.specs.Prelude.{ℕ, ◌-◌, ◌^◌, ◌<◌, ◌≤◌, ◌≡◌, ⊤, ◌⊎◌, List, [], ◌∷◌, ◌++◌, true, false, Contains, Result, IfOk}
 use Rattle.std.specs.List.{AllByRecursion}
 use Rattle.interval_set.specs.declared.set.Range.{Range}
 use Rattle.interval_set.specs.Numbers.{has}
@@ -12,6 +12,7 @@ use Rattle.name_set.specs.declared.set.NameSet.{NameSet}
 use Rattle.primitives.specs.declared.prim.Prim_.{Prim_}
 use Rattle.primitives.specs.Ports.{HasPorts}
 use Rattle.box_norm.specs.declared.cube.Cube.{Cube}
+use Rattle.box_norm.specs.declared.cube.CubeFault.{CubeFault}
 use Rattle.box_norm.specs.declared.cube.SimpleRule.{SimpleRule}
 use Rattle.box_norm.specs.Cubes.{is_none}
 use Rattle.box_norm.specs.Pieces.{single}
@@ -79,6 +80,11 @@ pub record IsOf (patterns : List Pattern) (s : NameSet) : Type 0 where
 pub record NamesAreOf {W : ℕ} (patterns : List Pattern) (c : Cube W) : Type 0 where
   pub in_name : IsOf patterns c.in_name
   pub out_name : IsOf patterns c.out_name
+
+-- where the names of the list are of some patterns, and each test of the expression has one of these, so are the names of the result
+abbrev pub KeepsPatterns : {W : ℕ} → List (Cube W) → Expr (Prim_ W) → Result (List (Cube W)) CubeFault → Type 0
+KeepsPatterns {W} list e result = (patterns : List Pattern) → AllByRecursion (Contains patterns) (patterns_of {W = W} e) →
+    AllByRecursion (NamesAreOf patterns) list → IfOk result (AllByRecursion (NamesAreOf patterns))
 
 -- no bit of `state` is set but those of the five states
 abbrev pub HasStates : {W : ℕ} → Cube W → Type 0

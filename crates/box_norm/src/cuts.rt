@@ -77,7 +77,7 @@ fn keep_parts<const W: u32>(
 {
     let mut kept = List::of(cubes_copy(alloc, list)?);
     for part in parts {
-        kept = match cut_list(alloc, kept.as_slice(), part) {
+        kept = match keep_list(alloc, kept.as_slice(), part) {
             Ok(next) => next,
             Err(fault) => return Err(fault),
         };
@@ -110,7 +110,7 @@ fn omit_parts<const W: u32>(
         if out.len() > LIMIT {
             return Err(CubeFault::Boxes);
         }
-        kept = match cut_list(alloc, kept.as_slice(), part) {
+        kept = match keep_list(alloc, kept.as_slice(), part) {
             Ok(next) => next,
             Err(fault) => return Err(fault),
         };
@@ -118,9 +118,9 @@ fn omit_parts<const W: u32>(
     Ok(List::of(out))
 }
 
-/// `cut` of a list that is lent.
+/// The packets of the list where the expression holds.
 #[cycle(cuts)]
-pub fn cut_list<const W: u32>(
+pub fn keep_list<const W: u32>(
     alloc: Global,
     list: &[Cube<W>],
     e: &Expr<Prim_<W>>,
@@ -135,7 +135,7 @@ pub fn cut_list<const W: u32>(
     }
 }
 
-/// `cut_not` of a list that is lent.
+/// The packets of the list where the expression doesn't hold.
 #[cycle(cuts)]
 pub fn omit_list<const W: u32>(
     alloc: Global,
@@ -147,7 +147,7 @@ pub fn omit_list<const W: u32>(
 {
     match e {
         Expr::All(parts) => omit_parts(alloc, list, parts.as_slice()),
-        Expr::Not(part) => cut_list(alloc, list, part.get()),
+        Expr::Not(part) => keep_list(alloc, list, part.get()),
         Expr::Prim(x) => omit_each(alloc, list, x),
     }
 }

@@ -9,10 +9,10 @@ ghost use Rattle.box_norm.specs.Cubes.{any_holds};
 ghost use Rattle.box_norm.specs.Cuts.{Answers, cuts_by};
 ghost use Rattle.box_norm.specs.Disjoint.{AreDisjoint};
 ghost use Rattle.box_norm.specs.Normal.{NormalAnswers, first_of, whole_of, with_verdict};
-ghost use Rattle.box_norm.specs.Regular.{AreRegular, EachCube, HasStates, IsRegular, NamesAreOf, rule_patterns};
+ghost use Rattle.box_norm.specs.Regular.{AreRegular, EachCube, HasStates, IsRegular, KeepsPatterns, NamesAreOf, rule_patterns};
 
 use crate::cube::{Cube, CubeFault, SimpleRule};
-use crate::cuts::{cut_list, omit_list};
+use crate::cuts::{keep_list, omit_list};
 use interval_set::Set;
 use match_expr::{Expr, FlatRule, List};
 use name_set::NameSet;
@@ -42,6 +42,25 @@ pub fn cut<const W: u32>(
     cut_list(alloc, list.as_slice(), e)
 }
 
+/// `cut` of a list that is lent, so that it stays.
+///
+/// Where the names of the list are of some patterns, and each pattern that the expression tests is one of them, the
+/// names of the result are of these patterns too.
+pub fn cut_list<const W: u32>(
+    alloc: Global,
+    list: &[Cube<W>],
+    e: &Expr<Prim_<W>>,
+) -> Result<List<Cube<W>>, CubeFault>
+    ensures answers { Answers ((cuts_by {W = W} e.now).keep list.now) result }
+    ensures disjoint { AreDisjoint list.now → IfOk result (λ l. AreDisjoint l) }
+    ensures regular { AreRegular list.now → IfOk result (λ l. AreRegular l) }
+    ensures states { AllByRecursion HasStates list.now → IfOk result (AllByRecursion HasStates) }
+    ensures patterns { KeepsPatterns list.now e.now result }
+    ensures packets { IfOk result (λ l. (p : Packet) → IsValid W p → any_holds l p ≡ (any_holds list.now p && eval_of (λ x. holds_of x p) e.now)) }
+{
+    keep_list(alloc, list, e)
+}
+
 /// The packets of the list where the expression doesn't hold.
 ///
 /// At `All` those where the first part doesn't hold stand first, then those where it holds and the second doesn't, and so
@@ -59,7 +78,26 @@ pub fn cut_not<const W: u32>(
     ensures states { AllByRecursion HasStates list.entry → IfOk result (AllByRecursion HasStates) }
     ensures packets { IfOk result (λ l. (p : Packet) → IsValid W p → any_holds l p ≡ (any_holds list.entry p && not (eval_of (λ x. holds_of x p) e.now))) }
 {
-    omit_list(alloc, list.as_slice(), e)
+    cut_not_list(alloc, list.as_slice(), e)
+}
+
+/// `cut_not` of a list that is lent, so that it stays.
+///
+/// Where the names of the list are of some patterns, and each pattern that the expression tests is one of them, the
+/// names of the result are of these patterns too.
+pub fn cut_not_list<const W: u32>(
+    alloc: Global,
+    list: &[Cube<W>],
+    e: &Expr<Prim_<W>>,
+) -> Result<List<Cube<W>>, CubeFault>
+    ensures answers { Answers ((cuts_by {W = W} e.now).omit list.now) result }
+    ensures disjoint { AreDisjoint list.now → IfOk result (λ l. AreDisjoint l) }
+    ensures regular { AreRegular list.now → IfOk result (λ l. AreRegular l) }
+    ensures states { AllByRecursion HasStates list.now → IfOk result (AllByRecursion HasStates) }
+    ensures patterns { KeepsPatterns list.now e.now result }
+    ensures packets { IfOk result (λ l. (p : Packet) → IsValid W p → any_holds l p ≡ (any_holds list.now p && not (eval_of (λ x. holds_of x p) e.now))) }
+{
+    omit_list(alloc, list, e)
 }
 
 /// The cube of all packets, which is regular, or `AllocError`.
@@ -118,7 +156,7 @@ fn normal_list<const W: u32>(
     let mut out = Vec::new(alloc);
     let mut is_full = false;
     for rule in rules {
-        let cubes = match cut_list(alloc, start.as_slice(), &rule.expr) {
+        let cubes = match keep_list(alloc, start.as_slice(), &rule.expr) {
             Ok(cubes) => cubes.into_vec(),
             Err(fault) => return Err(fault),
         };

@@ -32,18 +32,18 @@ omit_parts-returns-then-len-gt-LIMIT-clause-answers g t c =
     omits_full g.row.W c.args.parts.now c.loop-part.part-index c.part-item.result c.loop-part.kept c.as_slice.result.now _ c.loop-part-test.true c.part-item.is c.as_slice.ensures c.loop-part.out.items c.loop-part.invariant.work c.into_vec-more.result.items (c.into_vec-more.ensures ∙ c.in-Ok.ensures.answers.0)
     (omega (arith, ap length c.in_ok-append.ensures.items, c.len.ensures, c.if-len-gt-LIMIT.true))
 
-pub omit_parts-returns-in-Err-cut_list-clause-answers : goal.omit_parts-returns-in-Err-cut_list-clause-answers
-omit_parts-returns-in-Err-cut_list-clause-answers g t c = omits_keep_fault g.row.W c.args.parts.now c.loop-part.part-index c.part-item.result c.loop-part.kept c.as_slice-in-loop-part.result.now _ c.loop-part-test.true c.part-item.is c.as_slice-in-loop-part.ensures c.loop-part.out.items c.loop-part.invariant.work c.in-Err-cut_list.fault c.in-Err-cut_list.ensures.answers
+pub omit_parts-returns-in-Err-keep_list-clause-answers : goal.omit_parts-returns-in-Err-keep_list-clause-answers
+omit_parts-returns-in-Err-keep_list-clause-answers g t c = omits_keep_fault g.row.W c.args.parts.now c.loop-part.part-index c.part-item.result c.loop-part.kept c.as_slice-in-loop-part.result.now _ c.loop-part-test.true c.part-item.is c.as_slice-in-loop-part.ensures c.loop-part.out.items c.loop-part.invariant.work c.in-Err-keep_list.fault c.in-Err-keep_list.ensures.answers
 
 pub omit_parts-loop-part-preserved : goal.omit_parts-loop-part-preserved
 omit_parts-loop-part-preserved g t c =
     let a = rw c.as_slice.ensures at c.in-Ok.ensures.answers in
-    let b = rw c.as_slice-in-loop-part.ensures at c.in-Ok-cut_list.ensures.answers in
+    let b = rw c.as_slice-in-loop-part.ensures at c.in-Ok-keep_list.ensures.answers in
     let small : length (c.loop-part.out.items ++ c.into_vec-more.result.items) ≤ 16384 = omega (arith, ap length c.in_ok-append.ensures.items, c.len.ensures, c.if-len-gt-LIMIT.false) in
     record {
       work = rw c.in_ok-append.ensures.items (omits_turn g.row.W c.args.parts.now c.loop-part.part-index c.part-item.result c.loop-part.kept c.loop-part.kept _ c.loop-part-test.true c.part-item.is (λ i. c.loop-part.kept)
-          c.loop-part.out.items c.loop-part.invariant.work c.in-Ok-cut_list.next c.into_vec-more.result.items (c.into_vec-more.ensures ∙ a.0, a.1) b small);
-      regular = λ h. c.in-Ok-cut_list.ensures.regular (rw c.as_slice-in-loop-part.ensures (c.loop-part.invariant.regular h));
+          c.loop-part.out.items c.loop-part.invariant.work c.in-Ok-keep_list.next c.into_vec-more.result.items (c.into_vec-more.ensures ∙ a.0, a.1) b small);
+      regular = λ h. c.in-Ok-keep_list.ensures.regular (rw c.as_slice-in-loop-part.ensures (c.loop-part.invariant.regular h));
       omitted = λ h. rw c.in_ok-append.ensures.items (all_append IsRegular c.loop-part.out.items c.into_vec-more.result.items (c.loop-part.invariant.omitted h)
           (rw c.into_vec-more.ensures (c.in-Ok.ensures.regular (rw c.as_slice.ensures (c.loop-part.invariant.regular h)))));
     }

@@ -1,28 +1,23 @@
-use Rattle.std.proofs.Common.{ap, subst, sym, ◌∙◌, ◌&&◌}
+use Rattle.std.proofs.Common.{◌≡◌, subst, sym, ◌&&◌}
+use Rattle.std.specs.Prelude.{IfOk}
 use Rattle.std.specs.List.{AllByRecursion}
 use Rattle.match_expr.specs.Meaning.{eval_of}
-use Rattle.primitives.specs.Holds.{holds_of}
+use Rattle.primitives.specs.declared.prim.Packet.{Packet}
+use Rattle.primitives.specs.Holds.{holds_of, IsValid}
 use Rattle.box_norm.specs.Cubes.{any_holds}
-use Rattle.box_norm.specs.Cuts.{cuts_by}
 use Rattle.box_norm.specs.Disjoint.{AreDisjoint}
 use Rattle.box_norm.specs.Regular.{AreRegular, HasStates}
-use Rattle.box_norm.proofs.CutLaws.{cuts_keep, answers_packets}
-use Rattle.box_norm.proofs.PartLaws.{keep_disjoint}
-use Rattle.box_norm.proofs.StayLaws.{keep_states}
 use Rattle.box_norm.proofs.rules.cut.Goals as goal
 
 pub returns-clause-packets : goal.returns-clause-packets
-returns-clause-packets g c = answers_packets g.row.W ((cuts_by {W = g.row.W} c.args.e.now).keep c.as_slice.result.now) c.cut_list.result _
-    (λ l is p v. ap (λ z. any_holds z p) is ∙ (cuts_keep g.row.W p v c.args.e.now).keep c.as_slice.result.now ∙
-    ap (λ z. any_holds z p && eval_of (λ x. holds_of x p) c.args.e.now) c.as_slice.ensures) c.cut_list.ensures.answers
+returns-clause-packets g c = subst (λ z. IfOk c.cut_list.result (λ l. (p : Packet) → IsValid g.row.W p → any_holds l p ≡ (any_holds z p && eval_of (λ x. holds_of x p) c.args.e.now)))
+    c.as_slice.ensures c.cut_list.ensures.packets
 
 pub returns-clause-disjoint : goal.returns-clause-disjoint
-returns-clause-disjoint g c = λ h. answers_packets g.row.W ((cuts_by {W = g.row.W} c.args.e.now).keep c.as_slice.result.now) c.cut_list.result AreDisjoint
-    (λ l is. subst AreDisjoint (sym is) (keep_disjoint g.row.W c.args.e.now c.as_slice.result.now (subst AreDisjoint (sym c.as_slice.ensures) h))) c.cut_list.ensures.answers
+returns-clause-disjoint g c = λ h. c.cut_list.ensures.disjoint (subst AreDisjoint (sym c.as_slice.ensures) h)
 
 pub returns-clause-regular : goal.returns-clause-regular
 returns-clause-regular g c = λ h. c.cut_list.ensures.regular (subst AreRegular (sym c.as_slice.ensures) h)
 
 pub returns-clause-states : goal.returns-clause-states
-returns-clause-states g c = λ h. answers_packets g.row.W ((cuts_by {W = g.row.W} c.args.e.now).keep c.as_slice.result.now) c.cut_list.result (AllByRecursion HasStates)
-    (λ l is. subst (AllByRecursion HasStates) (sym is) (keep_states g.row.W c.args.e.now c.as_slice.result.now (subst (AllByRecursion HasStates) (sym c.as_slice.ensures) h))) c.cut_list.ensures.answers
+returns-clause-states g c = λ h. c.cut_list.ensures.states (subst (AllByRecursion HasStates) (sym c.as_slice.ensures) h)
