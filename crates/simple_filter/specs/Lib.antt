@@ -1,2 +1,3 @@
 pub mod Hidden
 pub mod Laws
+pub mod Closed

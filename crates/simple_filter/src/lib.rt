@@ -1,10 +1,14 @@
-//! Dumps of a filter table with the tests of interface names hidden.
+//! Dumps of a filter table with the tests of interface names hidden, and chains closed into simple rules.
 #![tactic(auto)]
 
+mod closing;
 mod hiding;
 mod laws;
+mod refusal;
 #[cfg(test)]
 mod tests;
 
+pub use closing::closed;
 pub use hiding::{Hide, abstracted};
 pub use laws::{hiding_keeps_settled, hiding_narrows_must, hiding_nothing, hiding_widens_may};
+pub use refusal::{Kind, Refusal};

@@ -1,0 +1,50 @@
+ghost use Rattle.std.specs.Prelude.{◌≡◌, Some, slice_get, IfOk, IfErr, OnOk};
+ghost use Rattle.interval_set.specs.Numbers.{IsWidth};
+ghost use Rattle.fw_rule.specs.Calls.{HasRoom};
+ghost use Rattle.fw_rule.specs.declared.rule.Chain.{Chain};
+ghost use Rattle.fw_rule.specs.declared.rule.Verdict.{Verdict};
+ghost use Rattle.chain_graph.specs.Paths.{CallsNameChains};
+ghost use Rattle.closure.specs.Checked.{HasPolicy};
+ghost use Rattle.box_norm.specs.Normal.{normal_of};
+ghost use Rattle.box_norm.specs.Regular.{EachCube, HasStates, IsRegular};
+ghost use Rattle.simple_filter.specs.Closed.{Accepts, HasCalls, IsSmall, NamesAreKnown, Refuses, WasChecked, flat_rules};
+
+use crate::refusal::Refusal;
+use box_norm::SimpleRule;
+use closure::Side;
+use fw_rule::Dump;
+use match_expr::List;
+use primitives::Prim_;
+use std::alloc::Global;
+
+/// The simple rules of a chain: the cubes of its flat list. With the chain's policy at their end they accept exactly the valid packets that may (Upper) or must (Lower) be accepted.
+///
+/// Each cube is regular, and each pattern in its names, but for a base of every name, stands in a known literal of a rule in reach. The chain has a policy.
+///
+/// # Errors
+///
+/// `Unsupported`, `Loop` and `Limit(Depth)` come exactly where a check of the chain's calls refuses it so. Else, in this order, `Limit(Nodes)` comes exactly where the rewritten tree has
+/// more than 262,144 items, `Limit(Literals)` where its flat list has more than 4,194,304 literals, `Limit(Boxes)` where a list of more than 16,384 cubes comes up while the flat list is
+/// cut out of the cube of all packets, and `Limit(Rules)` where the simple rules are more than 131,072. `Memory` comes where memory runs out. No other kind comes.
+pub fn closed<const W: u32>(
+    alloc: Global,
+    dump: &Dump<Prim_<W>>,
+    chain: u32,
+    side: Side,
+) -> Result<List<SimpleRule<W>>, Refusal>
+    requires width { IsWidth W }
+    requires policy { HasPolicy dump.now chain }
+    requires room { HasRoom dump.now }
+    requires named { CallsNameChains dump.now }
+    ensures rules { IfOk result (λ rules. rules ≡ normal_of (flat_rules dump.now chain side)) }
+    ensures calls { OnOk result (HasCalls dump.now chain) }
+    ensures checked { OnOk result (WasChecked dump.now chain) }
+    ensures small { OnOk result (IsSmall dump.now chain side) }
+    ensures regular { IfOk result (EachCube IsRegular) }
+    ensures states { IfOk result (EachCube HasStates) }
+    ensures names { IfOk result (EachCube (NamesAreKnown dump.now chain)) }
+    ensures meaning { IfOk result (λ rules. (here : Chain (Prim_ W)) (policy : Verdict) → slice_get dump.now.chains chain ≡ Some here → here.policy ≡ Some policy → Accepts side dump.now chain policy rules) }
+    ensures refused { IfErr result (Refuses dump.now chain side) }
+{
+    Err(Refusal::Memory)
+}

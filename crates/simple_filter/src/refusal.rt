@@ -1,0 +1,54 @@
+ghost use Rattle.std.specs.Prelude.{◌≡◌};
+ghost use Rattle.simple_filter.specs.declared.refusal.Refusal.TheVariants.{Memory};
+
+use match_expr::Bytes;
+use std::alloc::AllocError;
+use thiserror::Error;
+
+/// What can be too many.
+#[derive(Clone, Copy, Debug, PartialEq, Eq)]
+pub enum Kind {
+    /// A call path has 257 chains.
+    Depth,
+    /// The rewritten tree has more than 262,144 items.
+    Nodes,
+    /// The flat list has more than 4,194,304 literals, repeats counted.
+    Literals,
+    /// A list of more than 16,384 cubes comes up.
+    Boxes,
+    /// The simple rules are more than 131,072.
+    Rules,
+    /// The printed lines are too many.
+    Lines,
+    /// The distinct boundaries of address sets are too many.
+    Atoms,
+    /// The regions that are looked at are too many.
+    Regions,
+    /// The rules that a walk may visit are too many.
+    Visits,
+}
+
+/// Why a question on a chain has no answer.
+#[derive(Debug, Drop, Error)]
+pub enum Refusal {
+    /// The least line of a rule in reach whose target isn't supported, and the target's name.
+    #[error("line {line}: a target isn't supported")]
+    Unsupported { line: u32, name: Bytes },
+    /// No target in reach is unsupported, and this is the first declared chain in reach that calls itself over some path.
+    #[error("chain {chain} calls itself")]
+    Loop { chain: u32 },
+    /// Neither stands, and something is too much.
+    #[error("too much")]
+    Limit(Kind),
+    /// Memory ran out.
+    #[error("out of memory")]
+    Memory,
+}
+
+impl From<AllocError> for Refusal {
+    ghost from_gives = { λ _ e. e ≡ Memory };
+
+    fn from(_: AllocError) -> Self {
+        Refusal::Memory
+    }
+}
