@@ -213,11 +213,13 @@ one_mode : (m : Mode) (six : Bool) (name text : List ℕ) (s t : Status) → Ref
 one_mode mode.Check false name text s t p q = one_check ipv4_laws name text s t p q
 one_mode mode.Check true name text s t p q = one_check ipv6_laws name text s t p q
 one_mode mode.Upper six name text s t p q = one_upper six name text s t p q
+one_mode m six name text s t p q = p ∙ sym q
 
 no_mode : (m : Mode) (six : Bool) (name text written : List ℕ) (s : Status) → IsOutput m six name text written → RefusesMode m six name text s → ⊥
 no_mode mode.Check false name text written s o r = no_check ipv4_laws name text written s o r
 no_mode mode.Check true name text written s o r = no_check ipv6_laws name text written s o r
 no_mode mode.Upper six name text written s o r = no_upper six name text written s o r
+no_mode m six name text written s o r = o
 
 -- a text has one cause of refusal at most
 pub one_cause : (request : Request) (text : List ℕ) (s t : Status) → Refuses request text s → Refuses request text t → s ≡ t

@@ -74,5 +74,6 @@ pub fn answer(alloc: Global, request: &Request, text: &[u8]) -> Result<Vec<u8>, 
     match request.mode {
         Mode::Check => check_of(alloc, request.six, name, text),
         Mode::Upper => upper_of(alloc, request.six, name, text),
+        Mode::Lower => Err(Status::Later { line: 1 }),
     }
 }

@@ -33,6 +33,7 @@ abbrev pub mode_of : Text → Parts → Option Mode
 mode_of name parts =
     if bytes_eq name (codes "check") then alone_of mode.Check parts
     else if bytes_eq name (codes "upper") then alone_of mode.Upper parts
+    else if bytes_eq name (codes "lower") then alone_of mode.Lower parts
     else None
 
 -- whether addresses are IPv6 ones, by the family's text: IPv4 ones where none is given

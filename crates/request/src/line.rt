@@ -63,6 +63,8 @@ pub fn mode(name: &str, line: &Line<'_>) -> Option<Mode>
         alone(Mode::Check, line)
     } else if name == "upper" {
         alone(Mode::Upper, line)
+    } else if name == "lower" {
+        alone(Mode::Lower, line)
     } else {
         None
     }

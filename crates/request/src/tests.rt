@@ -22,6 +22,20 @@ fn options_stand_anywhere(rt: HostRuntime) -> Result<(), Fail> {
 }
 
 #[test]
+fn each_mode_has_its_word(rt: HostRuntime) -> Result<(), Fail> {
+    for (word, mode) in [
+        ("check", Mode::Check),
+        ("upper", Mode::Upper),
+        ("lower", Mode::Lower),
+    ] {
+        let words = words_of(rt.alloc(), &[word])?;
+        let request = spell(rt.alloc(), &words)?;
+        assert!(rt; request.mode == mode);
+    }
+    Ok(())
+}
+
+#[test]
 fn other_words_are_refused(rt: HostRuntime) -> Result<(), Fail> {
     let none: &[&str] = &[];
     let cases: [&[&str]; 5] = [

@@ -12,6 +12,8 @@ pub enum Mode {
     Check,
     /// A filter that accepts what a chain may accept.
     Upper,
+    /// A filter that accepts what a chain must accept.
+    Lower,
 }
 
 /// What a command line asks for.
