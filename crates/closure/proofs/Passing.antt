@@ -1,5 +1,5 @@
 -- The steps of the code that passes a chain's rules one after another.
-use Rattle.std.proofs.Common.{◌≡◌, ℕ, ◌+◌, ◌-◌, Bool, List, [], ◌∷◌, ◌++◌, drop, Some, slice_get, refl, sym, ◌∙◌, ap, append-nil}
+use Rattle.std.proofs.Common.{◌≡◌, ℕ, ◌+◌, ◌-◌, Bool, List, [], ◌∷◌, ◌++◌, drop, Some, slice_get, refl, sym, ◌∙◌, ap, subst, append-nil}
 use Rattle.match_expr.specs.declared.expr.Expr.{Expr}
 use Rattle.match_expr.specs.declared.expr.Expr.TheVariants.{Not}
 use Rattle.fw_rule.specs.declared.rule.Rule.{Rule}
@@ -88,3 +88,31 @@ module _ {P S : Type 0} (cut : S → Expr P → S) (side : Side) (dump : Dump P)
         out' o xs x s' z past' p found' f (states_here Row.LeaveLater is) (escapes_here Row.LeaveLater is) in
         let both = turn_left cut s' past' out' R found' E e (known_of rule) e_is 0 rest s'' z' past'' p' found'' f' block.0 block.1 out' refl in
         record { states = both.0; escapes = both.1 }
+
+-- what a sink has been given in the middle of the rules, where it was `before` at first
+module _ {P S K : Type 0} (given : K → List (S × Bool) → Type 0) (cut : S → Expr P → S) (side : Side) (dump : Dump P) (from : RulesFrom) (before : K) (start : S) where
+  pub record Gave (next : ℕ) (k : K) (s : S) (past : List (Expr P)) (found : List (Escape P)) : Type 0 where
+    pub states : (xs : List (S × Bool)) → given before xs → (ys : List (S × Bool)) × given k ys × (ys ++ stream cut s (items_from side dump (moved from next from.mode)) ≡ xs ++ stream cut start (items_from side dump from))
+    pub escapes : found ++ escapes past (items_from side dump (moved from next from.mode)) ≡ escapes [] (items_from side dump from)
+
+  pub gave_none : Gave from.first before start [] []
+  gave_none = record { states = λ xs h. (xs, h, refl); escapes = refl }
+
+  -- a turn of the loop, from what it adds to any list
+  pub gave_more : (next next' : ℕ) (k k' : K) (s s' : S) (past past' : List (Expr P)) (found found' : List (Escape P)) (add : List (S × Bool) → List (S × Bool)) →
+      ((ys : List (S × Bool)) → given k ys → given k' (add ys)) →
+      ((R : List (S × Bool)) (ys : List (S × Bool)) → Completes cut side dump from R (escapes [] (items_from side dump from)) next ys s past found →
+      Completes cut side dump from R (escapes [] (items_from side dump from)) next' (add ys) s' past' found') →
+      Gave next k s past found → Gave next' k' s' past' found'
+  gave_more next next' k k' s s' past past' found found' add put turn h = record {
+    states = λ xs g. let y = h.states xs g in (add y.0, put y.0 y.1, (turn (xs ++ stream cut start (items_from side dump from)) y.0 (record { states = y.2; escapes = h.escapes })).states);
+    escapes = (turn (stream cut s (items_from side dump (moved from next from.mode))) [] (record { states = refl; escapes = h.escapes })).escapes;
+  }
+
+  pub gave_all : (next : ℕ) (k : K) (s : S) (past : List (Expr P)) (found : List (Escape P)) → drop next (rules_of dump from.chain) ≡ [] → Gave next k s past found →
+      ((xs : List (S × Bool)) → given before xs → given k (xs ++ stream cut start (items_from side dump from))) × (found ≡ escapes [] (items_from side dump from))
+  gave_all next k s past found over h = (
+    λ xs g. let y = h.states xs g in subst (given k)
+        (all_passed cut side dump from (xs ++ stream cut start (items_from side dump from)) (escapes [] (items_from side dump from)) next y.0 s past found over (record { states = y.2; escapes = h.escapes })).0 y.1,
+    (all_passed cut side dump from (stream cut s (items_from side dump (moved from next from.mode))) (escapes [] (items_from side dump from)) next [] s past found over (record { states = refl; escapes = h.escapes })).1,
+  )

@@ -1,4 +1,4 @@
-ghost use Rattle.std.specs.Prelude.{◌≡◌, ◌++◌, ◌∷◌, [], IfOk, OnOk};
+ghost use Rattle.std.specs.Prelude.{◌≡◌, ◌++◌, ◌∷◌, Bool, List, [], IfOk, OnOk};
 ghost use Rattle.match_expr.specs.declared.expr.Expr.{Expr as Tested};
 ghost use Rattle.match_expr.specs.declared.expr.Expr.TheVariants.{Not};
 ghost use Rattle.closure.specs.Flat as spec;
@@ -17,6 +17,26 @@ pub trait State<P: Primitive>: Drop {
 
     fn cut(&self, alloc: Global, e: &Expr<P>) -> Result<Self, AllocError>
         ensures { IfOk result (λ s. s ≡ left self.now e.now) };
+}
+
+/// Takes what comes of each flat rule in turn, with the rule's verdict.
+pub trait Sink<S>: Drop {
+    /// It has been given these, in this order.
+    ghost given: { Self → List (S × Bool) → Type 0 };
+
+    fn put(&mut self, alloc: Global, state: S, accept: bool) -> Result<(), AllocError>
+        ensures { OnOk result ((xs : List (S × Bool)) → given self.old xs → given self.new (xs ++ (state, accept) ∷ [])) };
+}
+
+impl<S: Drop> Sink<S> for Vec<(S, bool)> {
+    ghost use Rattle.std.specs.Prelude.{◌≡◌};
+
+    ghost given = { λ v xs. v.items ≡ xs };
+
+    fn put(&mut self, _alloc: Global, state: S, accept: bool) -> Result<(), AllocError> {
+        self.push((state, accept))?;
+        Ok(())
+    }
 }
 
 /// Cut by what doesn't hold.

@@ -1,4 +1,4 @@
-ghost use Rattle.std.specs.Prelude.{◌≡◌, ◌++◌, ◌<◌, ◌+◌, ◌^◌, [], IfOk, OnOk, map};
+ghost use Rattle.std.specs.Prelude.{◌≡◌, ◌++◌, ◌<◌, ◌+◌, ◌^◌, Bool, List, [], IfOk, OnOk, map};
 ghost use Rattle.fw_rule.specs.Walk.{InSettled, Within};
 ghost use Rattle.closure.specs.Checked.{IsChecked};
 ghost use Rattle.closure.specs.Rewriting.{chain_tree};
@@ -7,7 +7,7 @@ ghost use Rattle.closure.specs.Flat.{escapes, flat_list};
 ghost use Rattle.closure.specs.Stream.{stream, cut_out, IsCutByParts};
 ghost use Rattle.closure.specs.Items.{items_from};
 
-use crate::cutting::{Passed, State};
+use crate::cutting::{Passed, Sink, State};
 use crate::modes::{Escape, Mode, Row, RulesFrom};
 use crate::parts::kind_of;
 use crate::ranks::rank_of;
@@ -18,19 +18,19 @@ use fw_rule::{Dump, doubtful, known};
 use match_expr::Primitive;
 use std::alloc::{AllocError, Global};
 
-/// The states of the flat rules that are made of these rules, with their verdicts, and the escapes.
-fn stream_from<P: Primitive, S: State<P>>(
+/// Gives the states of the flat rules that are made of these rules, with their verdicts; the escapes.
+fn stream_from<P: Primitive, S: State<P>, K: Sink<S>>(
     alloc: Global,
     dump: &Dump<P>,
     side: Side,
     from: RulesFrom,
     start: S,
-    out: &mut Vec<(S, bool)>,
+    out: &mut K,
 ) -> Result<Vec<Escape<P>>, AllocError>
     requires settled { InSettled dump.now from.chain }
     requires within { Within dump.now from.depth from.chain }
     requires room { level from.mode + from.depth < 2 ^ 32 }
-    ensures states { OnOk result (out.new.items ≡ out.old.items ++ stream S.left start (items_from side dump.now from)) }
+    ensures states { OnOk result ((xs : List (S × Bool)) → K.given out.old xs → K.given out.new (xs ++ stream S.left start (items_from side dump.now from))) }
     ensures escapes { IfOk result (λ found. found.items ≡ escapes [] (items_from side dump.now from)) }
 {
     let rules = dump.chains.as_slice()[from.chain as usize].rules.as_slice();
@@ -44,7 +44,10 @@ fn stream_from<P: Primitive, S: State<P>>(
         let e = known(alloc, rule)?;
         match row_of(side, kind_of(side, &rule.action), doubtful(rule), from.mode) {
             Row::Skip => {}
-            Row::Decide(accept) => out.push((passed.state.cut(alloc, &e)?, accept))?,
+            Row::Decide(accept) => {
+                let decided = passed.state.cut(alloc, &e)?;
+                out.put(alloc, decided, accept)?;
+            }
             Row::Leave(n) => passed.leave(alloc, &e, n)?,
             Row::LeaveLater => {
                 let inside = passed.state.cut(alloc, &e)?;
@@ -73,6 +76,33 @@ fn stream_from<P: Primitive, S: State<P>>(
     Ok(passed.found)
 }
 
+/// Gives the states of a chain's flat rules to the sink, in order, with their verdicts. The rules aren't built.
+///
+/// Where an `All` cuts the first state as its parts do in turn, these are the states that the flat rules' expressions cut out of it. `ranked` is what a check of the chain answers, and the
+/// chain has a policy. The one refusal is want of memory.
+pub fn stream_to<P: Primitive, S: State<P>, K: Sink<S>>(
+    alloc: Global,
+    dump: &Dump<P>,
+    ranked: &Ranked,
+    chain: u32,
+    side: Side,
+    start: S,
+    out: &mut K,
+) -> Result<(), AllocError>
+    requires { IsChecked dump.now chain ranked.now }
+    ensures tree { OnOk result ((xs : List (S × Bool)) → K.given out.old xs → K.given out.new (xs ++ stream S.left start (chain_tree side dump.now chain))) }
+    ensures list { OnOk result (IsCutByParts S.left start → (xs : List (S × Bool)) → K.given out.old xs → K.given out.new (xs ++ map (cut_out S.left start) (flat_list (chain_tree side dump.now chain)))) }
+{
+    let whole = RulesFrom {
+        chain,
+        first: 0,
+        depth: rank_of(ranked, chain),
+        mode: Mode::Hard,
+    };
+    let _escapes = stream_from(alloc, dump, side, whole, start, out)?;
+    Ok(())
+}
+
 /// The states of a chain's flat rules, in order, with their verdicts. The rules aren't built.
 ///
 /// Where an `All` cuts the first state as its parts do in turn, these are the states that the flat rules' expressions cut out of it.
@@ -88,13 +118,7 @@ pub fn states_of<P: Primitive, S: State<P>>(
     ensures tree { IfOk result (λ states. states.items ≡ stream S.left start (chain_tree side dump.now chain)) }
     ensures list { IfOk result (λ states. IsCutByParts S.left start → states.items ≡ map (cut_out S.left start) (flat_list (chain_tree side dump.now chain))) }
 {
-    let whole = RulesFrom {
-        chain,
-        first: 0,
-        depth: rank_of(ranked, chain),
-        mode: Mode::Hard,
-    };
     let mut states = Vec::new(alloc);
-    let _escapes = stream_from(alloc, dump, side, whole, start, &mut states)?;
+    stream_to(alloc, dump, ranked, chain, side, start, &mut states)?;
     Ok(states)
 }
