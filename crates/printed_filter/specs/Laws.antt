@@ -1,5 +1,5 @@
 -- What the dump of a printed text means.
-use Rattle.std.specs.Prelude.{ℕ, ◌≡◌, true, false, Bool, List, Option, Some, None}
+use Rattle.std.specs.Prelude.{ℕ, true, false, Bool, List, Option, Some, None}
 use Rattle.primitives.specs.declared.prim.Packet.{Packet}
 use Rattle.primitives.specs.Holds.{holds_of, IsValid}
 use Rattle.fw_rule.specs.declared.rule.Verdict.{Verdict}

@@ -1,0 +1,16 @@
+pub mod AddressFacts
+pub mod CallShape
+pub mod CubeFacts
+pub mod Facts
+pub mod FlagFacts
+pub mod Lines
+pub mod LineKnown
+pub mod NameFacts
+pub mod PortFacts
+pub mod ProtocolFacts
+pub mod RuleWalk
+pub mod Spelled
+pub mod StateFacts
+pub mod Truths
+pub mod WalkOver
+pub mod Whole
