@@ -1,6 +1,7 @@
 -- What a line says of an address.
-use Rattle.std.proofs.Common.{◌≡◌, ℕ, ◌^◌, ◌<◌, List, [], ◌∷◌, Bool, true, false, ◌&&◌, Option, Some, None, refl, sym, ◌∙◌, arith}
+use Rattle.std.proofs.Common.{◌≡◌, ℕ, ◌^◌, ◌<◌, List, [], ◌∷◌, Bool, true, false, ◌&&◌, ◌||◌, Option, Some, None, refl, sym, ◌∙◌, ap, arith}
 use Rattle.std.specs.Prelude.{if◌then◌else◌}
+use Rattle.std.specs.List.{list_any}
 use Rattle.std.proofs.lemmas.Bool.Decides.{nat_tests}
 use Rattle.interval_set.specs.declared.set.Range.{Range}
 use Rattle.interval_set.specs.Numbers.{has, is_within}
@@ -16,6 +17,11 @@ use Rattle.printed_filter.proofs.Truths.{and_true, or_false}
 
 pub everything_has : (w : ℕ) (r : Range) (x : ℕ) → x < 2 ^ w → is_everything w r ≡ true → is_within r x ≡ true
 everything_has w r x small e = grind (arith, nat_tests)
+
+-- whether one of the ranges has the number
+pub in_ranges : (x : ℕ) (rs : List Range) → list_any (λ r. is_within r x) rs ≡ has rs x
+in_ranges x [] = refl
+in_ranges x (r ∷ rs) = ap (λ b. is_within r x || b) (in_ranges x rs)
 
 module _ {W : ℕ} (p : Packet) (prim : List Range → Prim_ W) (x : ℕ) (says : (rs : List Range) → holds_of (prim rs) p ≡ has rs x) (small : x < 2 ^ W) where
   abbrev told : List (Lit (Prim_ W)) → Bool

@@ -1,8 +1,7 @@
 -- A packet is in a cube exactly where it passes one of the cube's lines and no return.
-use Rattle.std.proofs.Common.{◌≡◌, ℕ, ◌==◌, List, [], ◌∷◌, ◌++◌, Bool, true, false, not, ◌&&◌, ◌||◌, refl, ◌∙◌, ap, arith}
+use Rattle.std.proofs.Common.{◌≡◌, ℕ, ◌==◌, List, [], ◌++◌, Bool, true, false, not, ◌&&◌, ◌||◌, refl, ◌∙◌, ap, arith}
 use Rattle.std.specs.Prelude.{if◌then◌else◌}
 use Rattle.std.specs.List.{list_any, flat_map}
-use Rattle.interval_set.specs.declared.set.Range.{Range}
 use Rattle.interval_set.specs.Numbers.{has, is_within}
 use Rattle.name_set.specs.Names.{has_name, some_fits}
 use Rattle.primitives.specs.declared.prim.Packet.{Packet}
@@ -22,7 +21,7 @@ use Rattle.dump_print.specs.Parts.{Choice}
 use Rattle.dump_print.specs.Ports.{Ports, chunks, port_choices}
 use Rattle.dump_print.specs.Protocols.{protocols_of}
 use Rattle.printed_filter.specs.Literals.{base_literals, flags_literals, line_literals, listed_literals, module_literals, name_literals, net_literals, number_of, own_module_literals, protocol_literals, range_literals, single_literals, state_literals}
-use Rattle.printed_filter.proofs.AddressFacts.{address_meets}
+use Rattle.printed_filter.proofs.AddressFacts.{address_meets, in_ranges}
 use Rattle.printed_filter.proofs.Facts.{facts, facts-append}
 use Rattle.printed_filter.proofs.FlagFacts.{flags_fact, flags_meet}
 use Rattle.printed_filter.proofs.Lines.{any_line}
@@ -147,10 +146,6 @@ module _ (W : ℕ) (p : Packet) where
           (told (own_part form (single_literals (destination_ports (number_of form)) line.dports))) (told (own_part form (flags_literals line.flags)))
           (told (listed_from line)) (told (listed_to line)) (told (state_literals cube.state)) (is_within line.source p.src) (is_within line.destination p.dst)
           (address_meets p Prim_.Src p.src (λ rs. refl) v.src line.source) (address_meets p Prim_.Dst p.dst (λ rs. refl) v.dst line.destination)
-
-      in_ranges : (x : ℕ) (rs : List Range) → list_any (λ r. is_within r x) rs ≡ has rs x
-      in_ranges x [] = refl
-      in_ranges x (r ∷ rs) = ap (λ b. is_within r x || b) (in_ranges x rs)
 
       -- whether the packet passes one of the lines
       pub any_passes : list_any (λ line. told (line_literals cube line)) (choices_of cube) ≡

@@ -17,11 +17,10 @@ use Rattle.dump_print.specs.declared.flags.FlagCube.{FlagCube}
 use Rattle.dump_print.specs.declared.protocols.Protocols.{Protocols}
 use Rattle.dump_print.specs.FlagCover.{CoverFlags, match_count, matches}
 use Rattle.dump_print.specs.Flags.{all_below, beside, cubes_of, flag_cubes, same_truth}
-use Rattle.dump_print.specs.Ports.{has_port_module}
 use Rattle.dump_print.specs.Protocols.{protocols_of}
 use Rattle.printed_filter.specs.Literals.{flags_literals, yes}
 use Rattle.printed_filter.proofs.Facts.{facts, one_fact}
-use Rattle.printed_filter.proofs.PortFacts.{own_part}
+use Rattle.printed_filter.proofs.PortFacts.{nothing, own_part}
 use Rattle.printed_filter.proofs.Truths.{all_joined}
 
 -- no flag of comp is outside of mask: what matters here is an empty mask
@@ -96,13 +95,6 @@ module _ (W : ℕ) (p : Packet) where
   abbrev pub flags_fact : Protocols → FlagCube → Bool
   flags_fact form cube = told (own_part form (flags_literals cube))
 
-  free : (form : Protocols) → flags_fact form (record { mask = 0; comp = 0 }) ≡ true
-  free form = by (has_port_module form)
-    where
-      by : (b : Bool) → told (if b then [] else []) ≡ true
-      by true = refl
-      by false = refl
-
   module _ (tcp : (p.proto == 6) ≡ true) where
     told_by : (cube : FlagCube) (b : Bool) → (cube.mask == 0) ≡ b → Fits cube →
         told (if b then [] else yes (Prim_.Flags cube.mask cube.comp) ∷ []) ≡ matches p.flags cube
@@ -122,7 +114,7 @@ module _ (W : ℕ) (p : Packet) where
   flags_meet flags protos (inl all) cover of small =
       ap (λ z. list_any (flags_fact (protocols_of protos)) (cubes_of z)) all
       ∙ ap (list_any (flags_fact (protocols_of protos))) (full_cubes 6 (has_bit (2 ^ 64 - 1)) (λ n l. has_all n l))
-      ∙ ap (λ b. b || false) (free (protocols_of protos)) ∙ sym (ap (λ z. has_bit z p.flags) all ∙ has_all p.flags small)
+      ∙ ap (λ b. b || false) (nothing W p (protocols_of protos)) ∙ sym (ap (λ z. has_bit z p.flags) all ∙ has_all p.flags small)
   flags_meet flags protos (inr tcp) cover of small =
       ap (λ z. list_any (flags_fact z) (cubes_of flags)) (ap protocols_of tcp ∙ tcp_form)
       ∙ told_each (tcp_alone p.proto (sym (ap (λ (z : List Range). has z p.proto) tcp) ∙ of)) (cubes_of flags) (all_fit 6 (has_bit flags))

@@ -31,6 +31,15 @@ use Rattle.printed_filter.proofs.Truths.{and_true, any_map, any_same, or_assoc, 
 abbrev pub own_part : {W : ℕ} → Protocols → List (Lit (Prim_ W)) → List (Lit (Prim_ W))
 own_part form lits = if has_port_module form then lits else []
 
+module _ (W : ℕ) (p : Packet) where
+  nothing_by : (b : Bool) → facts (holds_of {W = W}) p (if b then [] else []) ≡ true
+  nothing_by true = refl
+  nothing_by false = refl
+
+  -- no literal says nothing
+  pub nothing : (form : Protocols) → facts (holds_of {W = W}) p (own_part form []) ≡ true
+  nothing form = nothing_by (has_port_module form)
+
 has-append : (a b : List Range) (x : ℕ) → has (a ++ b) x ≡ (has a x || has b x)
 has-append [] b x = refl
 has-append (r ∷ a) b x = ap (λ c. is_within r x || c) (has-append a b x) ∙ or_assoc (is_within r x) (has a x) (has b x)
@@ -64,22 +73,15 @@ module _ {W : ℕ} (p : Packet) (x : ℕ) (small : x < 65536) (expr : ℕ → Li
   abbrev pub port_fact : Protocols → Ports → Bool
   port_fact form ports = told (own_part form (single_literals (expr (number_of form)) ports)) && told (listed_literals (expr (number_of form)) ports)
 
-  nothing : (form : Protocols) → told (own_part form []) ≡ true
-  nothing form = by (has_port_module form)
-    where
-      by : (b : Bool) → told (if b then [] else []) ≡ true
-      by true = refl
-      by false = refl
-
   every : (form : Protocols) → port_fact form Ports.Every ≡ true
-  every form = ap (λ b. b && true) (nothing form)
+  every form = ap (λ b. b && true) (nothing W p form)
 
   module _ (n : ℕ) (of : (p.proto == n) ≡ true) where
     one : (rs : List Range) → told (Lit.Known false (expr n rs) ∷ []) ≡ has rs x
     one rs = and_true (eval_of (λ y. holds_of y p) (expr n rs)) ∙ says n rs of
 
     listed : (rs : List Range) → port_fact (Protocols.Only n) (Ports.Listed rs) ≡ has rs x
-    listed rs = ap (λ b. b && told (Lit.Known false (expr n rs) ∷ [])) (nothing (Protocols.Only n)) ∙ one rs
+    listed rs = ap (λ b. b && told (Lit.Known false (expr n rs) ∷ [])) (nothing W p (Protocols.Only n)) ∙ one rs
 
     many : (rs : List Range) → flat_map (λ chunk. chunk) (chunks rs) ≡ rs → list_any (port_fact (Protocols.Only n)) (map Ports.Listed (chunks rs)) ≡ has rs x
     many rs whole =

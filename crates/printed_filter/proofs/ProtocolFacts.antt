@@ -17,7 +17,7 @@ use Rattle.dump_print.specs.Addresses.{is_everything}
 use Rattle.dump_print.specs.Helpers.{returned_protocols}
 use Rattle.dump_print.specs.Protocols.{is_plain_protocols, lacking, numbers_from, numbers_of, protocols_of, protocols_without}
 use Rattle.printed_filter.specs.Literals.{protocol_literals}
-use Rattle.printed_filter.proofs.AddressFacts.{everything_has}
+use Rattle.printed_filter.proofs.AddressFacts.{everything_has, in_ranges}
 use Rattle.printed_filter.proofs.Facts.{facts, one_denied, one_fact}
 use Rattle.printed_filter.proofs.Spelled.{not_has}
 use Rattle.printed_filter.proofs.Truths.{and_true, any_flat, any_same}
@@ -75,10 +75,6 @@ in_range x r = in_numbers_from x r.lo (r.hi + 1 - r.lo) ∙ bounds
   where
     bounds : (nat_le r.lo x && nat_lt x (r.lo + (r.hi + 1 - r.lo))) ≡ (nat_le r.lo x && nat_le x r.hi)
     bounds = grind (arith, nat_tests)
-
-in_ranges : (x : ℕ) (rs : List Range) → list_any (λ r. is_within r x) rs ≡ has rs x
-in_ranges x [] = refl
-in_ranges x (r ∷ rs) = ap (λ b. is_within r x || b) (in_ranges x rs)
 
 in_numbers : (x : ℕ) (rs : List Range) → list_any (λ n. x == n) (numbers_of rs) ≡ has rs x
 in_numbers x rs =
