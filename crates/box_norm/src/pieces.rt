@@ -96,6 +96,9 @@ pub fn put_src<const W: u32>(
 ) -> Result<(), AllocError>
     ensures { OnOk result (out.new.items ≡ out.old.items ++ kept (record cube.now { src = src.entry })) }
 {
+    if no_range(&src) {
+        return Ok(());
+    }
     let piece = dims!(alloc, cube; src = src);
     keep(out, piece)
 }
@@ -109,6 +112,9 @@ pub fn put_dst<const W: u32>(
 ) -> Result<(), AllocError>
     ensures { OnOk result (out.new.items ≡ out.old.items ++ kept (record cube.now { dst = dst.entry })) }
 {
+    if no_range(&dst) {
+        return Ok(());
+    }
     let piece = dims!(alloc, cube; dst = dst);
     keep(out, piece)
 }
@@ -122,6 +128,9 @@ pub fn put_proto<const W: u32>(
 ) -> Result<(), AllocError>
     ensures { OnOk result (out.new.items ≡ out.old.items ++ kept (record cube.now { proto = proto })) }
 {
+    if no_range(&proto) {
+        return Ok(());
+    }
     let piece = dims!(alloc, cube; proto = proto);
     keep(out, piece)
 }
@@ -136,6 +145,9 @@ pub fn put_sport<const W: u32>(
 ) -> Result<(), AllocError>
     ensures { OnOk result (out.new.items ≡ out.old.items ++ kept (record cube.now { proto = proto; sport = sport })) }
 {
+    if no_range(&proto) || no_range(&sport) {
+        return Ok(());
+    }
     let piece = dims!(alloc, cube; proto = proto, sport = sport);
     keep(out, piece)
 }
@@ -150,6 +162,9 @@ pub fn put_dport<const W: u32>(
 ) -> Result<(), AllocError>
     ensures { OnOk result (out.new.items ≡ out.old.items ++ kept (record cube.now { proto = proto; dport = dport })) }
 {
+    if no_range(&proto) || no_range(&dport) {
+        return Ok(());
+    }
     let piece = dims!(alloc, cube; proto = proto, dport = dport);
     keep(out, piece)
 }
@@ -164,6 +179,9 @@ pub fn put_flags<const W: u32>(
 ) -> Result<(), AllocError>
     ensures { OnOk result (out.new.items ≡ out.old.items ++ kept (record cube.now { proto = proto; flags = flags })) }
 {
+    if no_range(&proto) || flags == 0 {
+        return Ok(());
+    }
     let piece = dims!(alloc, cube; proto = proto, flags = flags);
     keep(out, piece)
 }
@@ -177,6 +195,9 @@ pub fn put_state<const W: u32>(
 ) -> Result<(), AllocError>
     ensures { OnOk result (out.new.items ≡ out.old.items ++ kept (record cube.now { state = state })) }
 {
+    if state == 0 {
+        return Ok(());
+    }
     let piece = dims!(alloc, cube; state = state);
     keep(out, piece)
 }
