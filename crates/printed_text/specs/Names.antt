@@ -1,5 +1,5 @@
 -- Names of interfaces that lines can say.
-use Rattle.std.specs.Prelude.{ℕ, List}
+use Rattle.std.specs.Prelude.{ℕ}
 use Rattle.std.specs.List.{AllByRecursion}
 use Rattle.name_set.specs.declared.set.NameSet.{NameSet}
 use Rattle.box_norm.specs.declared.cube.Cube.{Cube}

@@ -2,7 +2,6 @@
 #![tactic(auto)]
 
 ghost use Rattle.std.specs.Prelude.{◌≡◌, true};
-ghost use Rattle.interval_set.specs.Numbers.{IsWidth};
 ghost use Rattle.box_norm.specs.Regular.{EachCube};
 ghost use Rattle.dump_grammar.specs.ChainLines.{built_in, is_among};
 ghost use Rattle.dump_grammar.specs.Reads.{IsDump};
@@ -13,6 +12,7 @@ ghost use Rattle.printed_text.specs.Names.{HasPrintableNames};
 
 use addr_text::Family;
 use box_norm::SimpleRule;
+use dump_print::{ports_are_kept, words_are_kept};
 use fw_rule::Verdict;
 
 /// That the text of printed rules is the dump that `printed_dump` says, whatever stands in their cubes. The chain is one of
@@ -22,11 +22,17 @@ pub fn is_read_back<F: Family<W>, const W: u32>(
     policy: Verdict,
     rules: &[SimpleRule<W>],
 )
-    requires width { IsWidth W }
     requires asked { is_among built_in chain.now ≡ true }
     requires printable { ArePrintable rules.now }
     requires names { EachCube HasPrintableNames rules.now }
     ensures { IsDump W F.Reads (printed F.text_of W chain.now policy rules.now) (printed_dump chain.now policy rules.now) }
 {
-    let _ = (chain, policy, rules);
+    words_are_kept();
+    ports_are_kept();
+    let _ = chain;
+    let _ = policy;
+    let _ = rules;
 }
+
+#[cfg(test)]
+mod tests;

@@ -1,0 +1,245 @@
+-- The text of printed rules is their dump.
+use Rattle.std.proofs.Common.{◌≡◌, ◌≢◌, ◌∙◌, ◌++◌, ◌+◌, ◌^◌, ◌<◌, ◌≤◌, ℕ, List, [], ◌∷◌, Bool, true, false, cond, Option, Some, None, map, length, refl, ap, ap₂, sym, subst₂, arith, inl, codes, append_assoc, decimal}
+use Rattle.std.specs.List.{AllByRecursion, flat_map, position_from}
+use Rattle.std.specs.Str.{bytes_eq}
+use Rattle.std.proofs.lemmas.Iterator.Adapters.{position_from-zero}
+use Rattle.std.proofs.lemmas.List.{length-map}
+use Rattle.interval_set.specs.declared.set.Range.{Range}
+use Rattle.interval_set.specs.Numbers.{IsSet}
+use Rattle.addr_text.specs.Grammar.{IsPlain}
+use Rattle.primitives.specs.declared.prim.Prim_.{Prim_}
+use Rattle.fw_rule.specs.declared.rule.Chain.{Chain}
+use Rattle.fw_rule.specs.declared.rule.Dump.{Dump}
+use Rattle.fw_rule.specs.declared.rule.Rule.{Rule}
+use Rattle.fw_rule.specs.declared.rule.Verdict.{Verdict}
+use Rattle.box_norm.specs.declared.cube.Cube.{Cube}
+use Rattle.box_norm.specs.declared.cube.SimpleRule.{SimpleRule}
+use Rattle.box_norm.specs.Regular.{EachCube, HasStates, IsRegular}
+use Rattle.dump_grammar.specs.ChainLines.{built_in, is_among}
+use Rattle.dump_grammar.specs.Lines.{Text, Word, bare}
+use Rattle.dump_grammar.specs.Printable.{IsPrintable}
+use Rattle.dump_grammar.specs.Reads.{IsDump}
+use Rattle.dump_grammar.specs.Targets.{IsJump}
+use Rattle.dump_print.specs.CubeLines.{choices_of, part_words}
+use Rattle.dump_print.specs.Helpers.{HelpedRule, helped_from, helper_name, returned_patterns, returned_protocols, verdict_text}
+use Rattle.dump_print.specs.Names.{name_word}
+use Rattle.dump_print.specs.Parts.{option_words, rule_words}
+use Rattle.dump_print.specs.PortCover.{CoverPorts}
+use Rattle.dump_print.specs.Printed.{all_lines, chain_words, printed, target_text}
+use Rattle.dump_print.specs.Protocols.{protocol_text}
+use Rattle.dump_print.specs.Sets.{HasSets}
+use Rattle.dump_print.specs.Spelling.{lines_text}
+use Rattle.dump_print.specs.Written.{IsWritten, KeepsWords}
+use Rattle.printed_filter.specs.Laws.{ArePrintable}
+use Rattle.printed_filter.specs.PrintedDump.{Said, action_to, asked_rules, dump_of_helped, helper_chains_from, helpers_of, placed_from, printed_dump}
+use Rattle.printed_text.specs.Names.{HasPrintableNames}
+use Rattle.printed_text.proofs.Blocks.{Block, HasGoodRules, IsGoodChain, IsGoodRule, RuleText, all_words, block_names, chain_line, chains_from}
+use Rattle.printed_text.proofs.ChainLemmas.{asked_by, asked_declared, asked_no_helper, asked_visible, chain_printed, helper_allowed, helper_declared, helper_no_asked, helper_visible}
+use Rattle.printed_text.proofs.HelperLemmas.{asked_block, asked_line, asked_lines, asked_said, asked_words, helper_block, helper_blocks, helper_texts, helpers_chains, helpers_declared, helpers_length, helpers_words, in_text, out_text, protocol_line, return_text, return_texts, verdict_line}
+use Rattle.printed_text.proofs.HelperNumbers.{IsFoundAt, IsHelperBlock, IsNumberIn, all_helped, blocks_in, helpers_apart, helpers_found, numbers_in}
+use Rattle.printed_text.proofs.ListLemmas.{all_contained, all_flat, all_joined, all_map, all_since}
+use Rattle.printed_text.proofs.NumberLemmas.{IsNumber}
+use Rattle.printed_text.proofs.ReturnLemmas.{returned_numbers, returned_printable}
+use Rattle.printed_text.proofs.RuleLines.{IsReturn, asked_line_is_rule, asked_line_is_written, input_return, output_return, protocol_return, return_line_is_rule, return_line_is_written, verdict_is_written, verdict_line_is_rule, verdict_line_is_written}
+use Rattle.printed_text.proofs.TableLemmas.{AreGood, closer, opener, table_lines, text_is_dump}
+use Rattle.printed_text.proofs.TextLines.{HoldsNoFeed, IsPrinted, is_printed, visible_line, visible_word}
+use Rattle.printed_text.proofs.WordLemmas.{CanStand, code_is_written}
+
+-- a cube whose lines can be read
+pub record IsFine {W : ℕ} (cube : Cube W) : Type 0 where
+  pub sets : HasSets cube
+  pub regular : IsRegular cube
+  pub states : HasStates cube
+  pub names : HasPrintableNames cube
+
+fine_rules : {W : ℕ} (rules : List (SimpleRule W)) → EachCube HasSets rules → EachCube IsRegular rules → EachCube HasStates rules → EachCube HasPrintableNames rules → EachCube IsFine rules
+fine_rules [] sets regular states names = tt
+fine_rules (rule ∷ rules) sets regular states names =
+    (record { sets = sets.0; regular = regular.0; states = states.0; names = names.0 }, fine_rules rules sets.1 regular.1 states.1 names.1)
+
+asked_stands : (chain : Text) → is_among built_in chain ≡ true → CanStand (bare chain)
+asked_stands = asked_by (λ chain. CanStand (bare chain)) (code_is_written (codes "INPUT") refl) (code_is_written (codes "FORWARD") refl) (code_is_written (codes "OUTPUT") refl)
+
+helper_stands : (n : ℕ) → n < 2 ^ 64 → CanStand (bare (helper_name n))
+helper_stands n small = (visible_word 67 (decimal n) (omega arith) (helper_visible n small), visible_line (helper_name n) (helper_visible n small))
+
+-- a helper's number is a number of 64 bits
+abbrev IsSmall : Option ℕ → Type 0
+IsSmall None = Unit {0}
+IsSmall (Some n) = n < 2 ^ 64
+
+target_stands : (accept : Bool) (helper : Option ℕ) → IsSmall helper → CanStand (bare (target_text accept helper))
+target_stands accept None small = verdict_is_written accept
+target_stands accept (Some n) small = helper_stands n small
+
+-- ---- where a rule's lines lead
+target_jumps : (chain : Text) (names : List Text) → is_among built_in chain ≡ true → (accept : Bool) (helper : Option ℕ) → IsSmall helper → IsFoundAt 1 names helper
+    → IsJump (chain ∷ names) (target_text accept helper) [] (action_to accept helper)
+target_jumps chain names asked true None small found = (refl, refl)
+target_jumps chain names asked false None small found = inl (refl, refl)
+target_jumps chain names asked accept (Some n) small found = (
+  helper_allowed n small,
+  position_from-zero (bytes_eq (helper_name n)) (chain ∷ names)
+      ∙ ap (λ (b : Bool). cond b (Some 0) (position_from (bytes_eq (helper_name n)) 1 names)) (asked_no_helper n chain asked) ∙ found,
+  refl,
+)
+
+-- ---- what is known of each rule with its helper
+record IsReady {W : ℕ} (names : List Text) (helped : HelpedRule W) : Type 0 where
+  fine : IsFine helped.rule.cube
+  small : IsSmall helped.helper
+  found : IsFoundAt 1 names helped.helper
+
+small_number : (end : ℕ) → end ≤ 2 ^ 64 → (helper : Option ℕ) → IsNumberIn 1 end helper → IsSmall helper
+small_number end small None is = tt
+small_number end small (Some n) is = omega (arith, is.1)
+
+ready_all : {W : ℕ} (names : List Text) (end : ℕ) → end ≤ 2 ^ 64 → (rules : List (HelpedRule W)) → AllByRecursion (λ (h : HelpedRule W). IsFine h.rule.cube) rules
+    → AllByRecursion (λ (h : HelpedRule W). IsNumberIn 1 end h.helper) rules → AllByRecursion (λ (h : HelpedRule W). IsFoundAt 1 names h.helper) rules
+    → AllByRecursion (IsReady names) rules
+ready_all names end small [] fine is found = tt
+ready_all names end small (h ∷ rules) fine is found =
+    (record { fine = fine.0; small = small_number end small h.helper is.0; found = found.0 }, ready_all names end small rules fine.1 is.1 found.1)
+
+module _ (keeps : KeepsWords) where
+  -- a rule line can be read
+  rule_printed : (chain : Text) (parts : List Word) (target : Text) → AllByRecursion CanStand (rule_words chain parts target) → IsPrinted (rule_words chain parts target)
+  rule_printed chain parts target stands =
+      is_printed keeps (bare (codes "-A")) (bare chain ∷ (parts ++ option_words (codes "-j") (bare target)))
+      (all_since CanStand IsWritten (λ w s. s.0) (rule_words chain parts target) stands)
+      (all_since CanStand HoldsNoFeed (λ w s. s.1) (rule_words chain parts target) stands) refl
+
+  one_good_chain : {W : ℕ} (rule : SimpleRule W) (helper : Option ℕ) → IsSmall helper → AllByRecursion IsGoodChain (helper_block rule helper)
+  one_good_chain rule None small = tt
+  one_good_chain rule (Some n) small =
+      (record { printed = chain_printed keeps (helper_name n) None (helper_visible n small); says = helper_declared n small }, tt)
+
+  helper_chains_good : {W : ℕ} (names : List Text) (rules : List (HelpedRule W)) → AllByRecursion (IsReady names) rules → AllByRecursion IsGoodChain (helper_blocks rules)
+  helper_chains_good {W} names rules ready =
+      all_flat IsGoodChain (λ (h : HelpedRule W). helper_block h.rule h.helper) rules
+      (all_since (IsReady names) (λ (h : HelpedRule W). AllByRecursion IsGoodChain (helper_block h.rule h.helper)) (λ h r. one_good_chain h.rule h.helper r.small) rules ready)
+
+module _ (W : ℕ) (Reads : Text → ℕ → Type 0) (keeps : KeepsWords) (names : List Text) where
+  -- ---- the lines of a helper chain
+  return_good : (chain option : Text) (argument : Word) (x : Prim_ W) → CanStand (bare chain) → IsReturn W Reads option argument x
+      → IsGoodRule Reads names chain (return_text chain option argument x)
+  return_good chain option argument x stands is = record {
+    printed = rule_printed keeps chain (option_words option argument) (codes "RETURN") (return_line_is_written W Reads chain option argument x is stands);
+    says = return_line_is_rule W Reads names chain option argument x is;
+  }
+
+  verdict_good : (chain : Text) (accept : Bool) → CanStand (bare chain) → IsGoodRule {W = W} Reads names chain (verdict_line chain accept)
+  verdict_good chain accept stands = record {
+    printed = rule_printed keeps chain [] (verdict_text accept) (verdict_line_is_written chain accept stands);
+    says = verdict_line_is_rule W Reads names chain accept;
+  }
+
+  returns_good : (chain : Text) (cube : Cube W) → IsFine cube → CanStand (bare chain) → AllByRecursion (IsGoodRule Reads names chain) (return_texts chain cube)
+  returns_good chain cube fine stands =
+      let Good = IsGoodRule {W = W} Reads names chain in
+      all_joined Good (map (in_text chain) (returned_patterns cube.in_name)) (map (out_text chain) (returned_patterns cube.out_name) ++ map (protocol_line chain) (returned_protocols cube.proto))
+      (all_map Good (in_text chain) (returned_patterns cube.in_name)
+      (all_since IsPrintable (λ p. Good (in_text chain p)) (λ p is. return_good chain (codes "-i") (name_word p) (Prim_.InName p) stands (input_return W Reads p is))
+      (returned_patterns cube.in_name) (returned_printable cube.in_name fine.names.in_name)))
+      (all_joined Good (map (out_text chain) (returned_patterns cube.out_name)) (map (protocol_line chain) (returned_protocols cube.proto))
+      (all_map Good (out_text chain) (returned_patterns cube.out_name)
+      (all_since IsPrintable (λ p. Good (out_text chain p)) (λ p is. return_good chain (codes "-o") (name_word p) (Prim_.OutName p) stands (output_return W Reads p is))
+      (returned_patterns cube.out_name) (returned_printable cube.out_name fine.names.out_name)))
+      (all_map Good (protocol_line chain) (returned_protocols cube.proto)
+      (all_since IsNumber (λ n. Good (protocol_line chain n)) (λ n is. return_good chain (codes "-p") (bare (protocol_text n)) (Prim_.Proto n) stands (protocol_return W Reads n is))
+      (returned_protocols cube.proto) (returned_numbers cube fine.regular))))
+
+  helper_good : (chain : Text) (rule : SimpleRule W) → IsFine rule.cube → CanStand (bare chain) → AllByRecursion (IsGoodRule Reads names chain) (helper_texts chain rule)
+  helper_good chain rule fine stands =
+      all_joined (IsGoodRule Reads names chain) (return_texts chain rule.cube) (verdict_line chain rule.accept ∷ [])
+      (returns_good chain rule.cube fine stands) (verdict_good chain rule.accept stands, tt)
+
+  block_good : (rule : SimpleRule W) (helper : Option ℕ) → IsFine rule.cube → IsSmall helper → AllByRecursion (HasGoodRules Reads names) (helper_block rule helper)
+  block_good rule None fine small = tt
+  block_good rule (Some n) fine small = (helper_good (helper_name n) rule fine (helper_stands n small), tt)
+
+  helpers_good : (others : List Text) (rules : List (HelpedRule W)) → AllByRecursion (IsReady others) rules → AllByRecursion (HasGoodRules Reads names) (helper_blocks rules)
+  helpers_good others rules ready =
+      all_flat (HasGoodRules Reads names) (λ (h : HelpedRule W). helper_block h.rule h.helper) rules
+      (all_since (IsReady others) (λ (h : HelpedRule W). AllByRecursion (HasGoodRules Reads names) (helper_block h.rule h.helper))
+      (λ h r. block_good h.rule h.helper r.fine r.small) rules ready)
+
+-- ---- the text of printed rules
+module _ (Reads : Text → ℕ → Type 0) (text_of : ℕ → Text) (W : ℕ)
+    (round : (value : ℕ) → value < 2 ^ W → Reads (text_of value) value)
+    (plain : (text : Text) (value : ℕ) → Reads text value → IsPlain text)
+    (kept : (rs : List Range) → IsSet 16 rs → CoverPorts rs)
+    (keeps : KeepsWords) where
+  asked_good : (names : List Text) (chain : Text) → is_among built_in chain ≡ true → (helped : HelpedRule W) → IsReady names helped
+      → AllByRecursion (IsGoodRule Reads (chain ∷ names) chain) (asked_lines text_of chain helped)
+  asked_good names chain asked helped ready =
+      let cube = helped.rule.cube in
+      let target = target_text helped.rule.accept helped.helper in
+      let fine = ready.fine in
+      let Good = IsGoodRule {W = W} Reads (chain ∷ names) chain in
+      all_map Good (asked_line text_of chain helped) (choices_of cube)
+      (all_contained (λ line. Good (asked_line text_of chain helped line)) (choices_of cube) (λ line there. record {
+        printed = rule_printed keeps chain (part_words text_of W cube line) target
+            (asked_line_is_written Reads text_of W fine.sets.source.0 round plain kept chain cube line target fine.sets fine.regular fine.states fine.names there
+            (asked_stands chain asked) (target_stands helped.rule.accept helped.helper ready.small));
+        says = asked_line_is_rule Reads text_of W fine.sets.source.0 round plain kept (chain ∷ names) chain cube line target (action_to helped.rule.accept helped.helper)
+            fine.sets fine.regular fine.states fine.names there (target_jumps chain names asked helped.rule.accept helped.helper ready.small ready.found);
+      }))
+
+  all_asked_good : (names : List Text) (chain : Text) → is_among built_in chain ≡ true → (rules : List (HelpedRule W)) → AllByRecursion (IsReady names) rules
+      → AllByRecursion (IsGoodRule Reads (chain ∷ names) chain) (flat_map (asked_lines text_of chain) rules)
+  all_asked_good names chain asked rules ready =
+      all_flat (IsGoodRule Reads (chain ∷ names) chain) (asked_lines text_of chain) rules
+      (all_since (IsReady names) (λ (h : HelpedRule W). AllByRecursion (IsGoodRule Reads (chain ∷ names) chain) (asked_lines text_of chain h)) (asked_good names chain asked) rules ready)
+
+  abbrev blocks_of : Text → Verdict → List (HelpedRule W) → List (Block W)
+  blocks_of chain policy rules = asked_block text_of chain policy rules ∷ helper_blocks rules
+
+  module _ (chain : Text) (policy : Verdict) (asked : is_among built_in chain ≡ true) (rules : List (SimpleRule W)) (few : 1 + length rules ≤ 2 ^ 64) (fine : EachCube IsFine rules) where
+    abbrev helped : List (HelpedRule W)
+    helped = helped_from 1 rules
+
+    abbrev helper_names : List Text
+    helper_names = block_names (helper_blocks (helped_from 1 rules))
+
+    ready : AllByRecursion (IsReady helper_names) helped
+    ready = ready_all helper_names (1 + length rules) few helped (all_helped (λ (rule : SimpleRule W). IsFine rule.cube) 1 rules fine) (numbers_in 1 rules) (helpers_found 1 rules few)
+
+    other_names : AllByRecursion (λ (b : Block W). b.name ≢ chain) (helper_blocks helped)
+    other_names = all_since (IsHelperBlock 1 (1 + length rules)) (λ (b : Block W). b.name ≢ chain)
+        (λ b is e. helper_no_asked is.number chain asked (sym is.name ∙ e)) (helper_blocks helped) (blocks_in 1 (1 + length rules) helped (numbers_in 1 rules))
+
+    blocks_good : AreGood Reads (blocks_of chain policy helped)
+    blocks_good = record {
+      apart = (other_names, helpers_apart 1 rules few);
+      chains = (record { printed = chain_printed keeps chain (Some policy) (asked_visible chain asked); says = asked_declared chain policy asked }, helper_chains_good keeps helper_names helped ready);
+      rules = (all_asked_good helper_names chain asked helped ready, helpers_good W Reads keeps (chain ∷ helper_names) helper_names helped ready);
+    }
+
+    lines_same : table_lines (blocks_of chain policy helped) ≡ all_lines text_of W chain policy helped
+    lines_same =
+        ap (λ (l : List (List Word)). opener ∷ chain_words chain (Some policy) ∷ l)
+        (append_assoc (map chain_line (helper_blocks helped)) (all_words (blocks_of chain policy helped)) (closer ∷ [])
+        ∙ ap₂ (λ (x y : List (List Word)). x ++ (y ++ closer ∷ [])) (helpers_declared helped)
+        (ap₂ (λ (x y : List (List Word)). x ++ y) (asked_words text_of chain helped) (helpers_words helped)))
+
+    dump_same : record { chains = chains_from (2 + length (blocks_of chain policy helped)) (blocks_of chain policy helped) } ≡ dump_of_helped chain policy helped
+    dump_same =
+        let lines = flat_map (asked_lines text_of chain) helped in
+        let start = 3 + length (helpers_of helped) in
+        let begins : 2 + length (blocks_of chain policy helped) ≡ start = omega (arith, helpers_length helped) in
+        let long : length lines ≡ length (flat_map asked_rules helped)
+        = sym (length-map lines (λ (line : RuleText W). line.said)) ∙ ap (λ (l : List (Said W)). length l) (asked_said text_of chain helped) in
+        ap (λ m. record { chains = chains_from m (blocks_of chain policy helped) }) begins
+        ∙ ap₂ (λ (rs : List (Rule (Prim_ W))) (cs : List (Chain (Prim_ W))). record { chains = record { name = chain; policy = Some policy; rules = rs } ∷ cs })
+        (ap (placed_from start) (asked_said text_of chain helped))
+        (helpers_chains (start + length lines) helped ∙ ap (λ m. helper_chains_from (start + m) (helpers_of helped)) long)
+
+    text_read : IsDump W Reads (printed text_of W chain policy rules) (printed_dump chain policy rules)
+    text_read = subst₂ (λ (text : Text) (dump : Dump (Prim_ W)). IsDump W Reads text dump) (ap lines_text lines_same) dump_same
+        (text_is_dump Reads keeps (blocks_of chain policy helped) blocks_good)
+
+  pub read_back : (chain : Text) (policy : Verdict) (rules : List (SimpleRule W)) → is_among built_in chain ≡ true → 1 + length rules ≤ 2 ^ 64 → ArePrintable rules → EachCube HasPrintableNames rules
+      → IsDump W Reads (printed text_of W chain policy rules) (printed_dump chain policy rules)
+  read_back chain policy rules asked few printable names =
+      text_read chain policy asked rules few (fine_rules rules printable.sets printable.regular printable.states names)

@@ -1,0 +1,63 @@
+-- What a helper chain gives back: printable patterns, and protocols from 1 to 255.
+use Rattle.std.proofs.Common.{◌≡◌, ◌∙◌, ◌+◌, ◌-◌, ◌<◌, ◌≤◌, ◌⊎◌, ℕ, zero, suc, List, [], ◌∷◌, Bool, true, false, ap, arith, inl, inr}
+use Rattle.std.specs.Prelude.{if◌then◌else◌, nat_le}
+use Rattle.std.specs.List.{AllByRecursion}
+use Rattle.std.proofs.lemmas.Bool.{and_from, le-leb, or_left, or_right}
+use Rattle.interval_set.specs.declared.set.Range.{Range}
+use Rattle.interval_set.specs.Numbers.{has, is_within}
+use Rattle.interval_set.specs.Spelling.{set_not}
+use Rattle.name_set.specs.declared.set.NameSet.{NameSet}
+use Rattle.box_norm.specs.declared.cube.Cube.{Cube}
+use Rattle.box_norm.specs.Pieces.{single}
+use Rattle.box_norm.specs.Regular.{IsRegular}
+use Rattle.dump_grammar.specs.Printable.{IsPrintable}
+use Rattle.dump_print.specs.Helpers.{returned_patterns, returned_protocols}
+use Rattle.dump_print.specs.Names.{is_plain_names}
+use Rattle.dump_print.specs.Protocols.{is_plain_protocols, lacking, numbers_from, numbers_of, protocols_of}
+use Rattle.printed_text.specs.Names.{ArePrintableNames}
+use Rattle.printed_text.proofs.ListLemmas.{all_flat, all_since}
+use Rattle.printed_text.proofs.NumberLemmas.{IsNumber, lacked_number}
+use Rattle.printed_text.proofs.ProtocolParts.{single_only}
+
+unless : {X : Type 0} (P : X → Type 0) (b : Bool) (xs : List X) → AllByRecursion P xs → AllByRecursion P (if b then [] else xs)
+unless P true xs are = tt
+unless P false xs are = are
+
+pub returned_printable : (names : NameSet) → ArePrintableNames names → AllByRecursion IsPrintable (returned_patterns names)
+returned_printable names are = unless IsPrintable (is_plain_names names) names.excluded are.excluded
+
+all_from : (P : ℕ → Type 0) (first count : ℕ) → ((n : ℕ) → first ≤ n → n < first + count → P n) → AllByRecursion P (numbers_from first count)
+all_from P first zero f = tt
+all_from P first (suc count) f = (f first (omega arith) (omega arith), all_from P (first + 1) count (λ n low high. f n (omega arith) (omega arith)))
+
+within_has : (r : Range) (rs : List Range) (n : ℕ) → r.lo ≤ n → n ≤ r.hi → has (r ∷ rs) n ≡ true
+within_has r rs n low high = or_left (is_within r n) (has rs n) (and_from (nat_le r.lo n) (nat_le n r.hi) (le-leb r.lo n low) (le-leb n r.hi high))
+
+-- each number of each range is in the set
+each_has : (rs : List Range) → AllByRecursion (λ (r : Range). (n : ℕ) → r.lo ≤ n → n ≤ r.hi → has rs n ≡ true) rs
+each_has [] = tt
+each_has (r ∷ rs) = (
+  within_has r rs,
+  all_since (λ (s : Range). (n : ℕ) → s.lo ≤ n → n ≤ s.hi → has rs n ≡ true) (λ (s : Range). (n : ℕ) → s.lo ≤ n → n ≤ s.hi → has (r ∷ rs) n ≡ true)
+      (λ s f n low high. or_right (is_within r n) (has rs n) (f n low high)) rs (each_has rs),
+)
+
+numbers_has : (rs : List Range) → AllByRecursion (λ n. has rs n ≡ true) (numbers_of rs)
+numbers_has rs = all_flat (λ n. has rs n ≡ true) (λ (r : Range). numbers_from r.lo (r.hi + 1 - r.lo)) rs
+    (all_since (λ (r : Range). (n : ℕ) → r.lo ≤ n → n ≤ r.hi → has rs n ≡ true) (λ (r : Range). AllByRecursion (λ n. has rs n ≡ true) (numbers_from r.lo (r.hi + 1 - r.lo)))
+    (λ r f. all_from (λ n. has rs n ≡ true) r.lo (r.hi + 1 - r.lo) (λ n low high. f n low (omega arith))) rs (each_has rs))
+
+lacking_numbers : (rs : List Range) → has rs 0 ≡ true → AllByRecursion IsNumber (lacking rs)
+lacking_numbers rs zeroed = all_since (λ n. has (set_not 8 rs) n ≡ true) IsNumber (λ n lacked. lacked_number rs n zeroed lacked) (lacking rs) (numbers_has (set_not 8 rs))
+
+none_if_plain : (rs : List Range) (b : Bool) → b ≡ true → AllByRecursion IsNumber (if b then [] else lacking rs)
+none_if_plain rs true e = tt
+none_if_plain rs false e = let wrong : false ≡ true = e in cc
+
+pub returned_numbers : {W : ℕ} (cube : Cube W) → IsRegular cube → AllByRecursion IsNumber (returned_protocols cube.proto)
+returned_numbers cube regular = by_protocols regular.proto
+  where
+    by_protocols : ((n : ℕ) × (1 ≤ n) × (n ≤ 255) × (cube.proto ≡ single n)) ⊎ (has cube.proto 0 ≡ true) → AllByRecursion IsNumber (returned_protocols cube.proto)
+    by_protocols (inl (n, some, small, is)) =
+        none_if_plain cube.proto (is_plain_protocols (protocols_of cube.proto)) (ap is_plain_protocols (ap protocols_of is ∙ single_only n some))
+    by_protocols (inr zeroed) = unless IsNumber (is_plain_protocols (protocols_of cube.proto)) (lacking cube.proto) (lacking_numbers cube.proto zeroed)
