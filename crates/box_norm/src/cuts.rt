@@ -1,4 +1,5 @@
 ghost use Rattle.std.specs.Prelude.{◌≡◌, ◌&&◌, IfOk, map, not};
+ghost use Rattle.std.specs.Option.{unwrap_or};
 ghost use Rattle.match_expr.specs.Meaning.{eval_of};
 ghost use Rattle.primitives.specs.declared.prim.Packet.{Packet};
 ghost use Rattle.primitives.specs.Holds.{holds_of, IsValid};
@@ -65,6 +66,16 @@ fn omit_each<const W: u32>(
     Ok(List::of(out))
 }
 
+/// The list that is kept, and at first, where there is none yet, the one that was lent.
+fn list_now<'a, const W: u32>(kept: &'a Option<List<Cube<W>>>, lent: &'a [Cube<W>]) -> &'a [Cube<W>]
+    ensures { result.now ≡ unwrap_or kept.now lent.now }
+{
+    match kept {
+        Some(kept) => kept.as_slice(),
+        None => lent,
+    }
+}
+
 /// The packets of the list where every part holds.
 #[cycle(cuts)]
 fn keep_parts<const W: u32>(
@@ -75,17 +86,20 @@ fn keep_parts<const W: u32>(
     ensures answers { Answers (keep_all (map (cuts_by {W = W}) parts.now) list.now) result }
     ensures regular { AreRegular list.now → IfOk result (λ l. AreRegular l) }
 {
-    let mut kept = List::of(cubes_copy(alloc, list)?);
+    let mut kept: Option<List<Cube<W>>> = None;
     for part in parts {
-        kept = match keep_list(alloc, kept.as_slice(), part) {
-            Ok(next) => next,
+        kept = match keep_list(alloc, list_now(&kept, list), part) {
+            Ok(next) => Some(next),
             Err(fault) => return Err(fault),
         };
     }
-    if kept.as_slice().len() > LIMIT {
+    if list_now(&kept, list).len() > LIMIT {
         return Err(CubeFault::Boxes);
     }
-    Ok(kept)
+    match kept {
+        Some(kept) => Ok(kept),
+        None => Ok(List::of(cubes_copy(alloc, list)?)),
+    }
 }
 
 /// The packets of the list where some part doesn't hold, those of the first part first.
@@ -98,10 +112,10 @@ fn omit_parts<const W: u32>(
     ensures answers { Answers (omit_all (map (cuts_by {W = W}) parts.now) list.now) result }
     ensures regular { AreRegular list.now → IfOk result (λ l. AreRegular l) }
 {
-    let mut kept = List::of(cubes_copy(alloc, list)?);
+    let mut kept: Option<List<Cube<W>>> = None;
     let mut out = Vec::new(alloc);
     for part in parts {
-        let more = match omit_list(alloc, kept.as_slice(), part) {
+        let more = match omit_list(alloc, list_now(&kept, list), part) {
             Ok(more) => more,
             Err(fault) => return Err(fault),
         };
@@ -110,8 +124,8 @@ fn omit_parts<const W: u32>(
         if out.len() > LIMIT {
             return Err(CubeFault::Boxes);
         }
-        kept = match keep_list(alloc, kept.as_slice(), part) {
-            Ok(next) => next,
+        kept = match keep_list(alloc, list_now(&kept, list), part) {
+            Ok(next) => Some(next),
             Err(fault) => return Err(fault),
         };
     }
