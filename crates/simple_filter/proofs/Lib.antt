@@ -1,0 +1,4 @@
+pub mod ClosedLaws
+pub mod CutInTurn
+pub mod KnownNames
+pub mod Takings

@@ -1,3 +1,5 @@
 pub mod Hidden
 pub mod Laws
 pub mod Closed
+pub mod Collected
+pub mod Refused

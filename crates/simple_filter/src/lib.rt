@@ -2,6 +2,8 @@
 #![tactic(auto)]
 
 mod closing;
+mod collecting;
+mod cubes;
 mod hiding;
 mod laws;
 mod refusal;

@@ -1,6 +1,6 @@
 ghost use Rattle.std.specs.Prelude.{◌≡◌};
-ghost use Rattle.simple_filter.specs.declared.refusal.Refusal.TheVariants.{Memory};
 
+use chain_graph::GraphFault;
 use match_expr::Bytes;
 use std::alloc::AllocError;
 use thiserror::Error;
@@ -46,9 +46,26 @@ pub enum Refusal {
 }
 
 impl From<AllocError> for Refusal {
+    ghost use Rattle.simple_filter.specs.declared.refusal.Refusal.TheVariants.{Memory};
+
     ghost from_gives = { λ _ e. e ≡ Memory };
 
     fn from(_: AllocError) -> Self {
         Refusal::Memory
+    }
+}
+
+impl From<GraphFault> for Refusal {
+    ghost use Rattle.simple_filter.specs.Refused.{of_check};
+
+    ghost from_gives = { λ fault e. e ≡ of_check fault };
+
+    fn from(fault: GraphFault) -> Self {
+        match fault {
+            GraphFault::Unsupported { line, name } => Refusal::Unsupported { line, name },
+            GraphFault::Loop { chain } => Refusal::Loop { chain },
+            GraphFault::Depth => Refusal::Limit(Kind::Depth),
+            GraphFault::Memory => Refusal::Memory,
+        }
     }
 }

@@ -1,0 +1,144 @@
+-- What is held after the states of a flat list came, by the list itself.
+use Rattle.std.proofs.Common.{◌≡◌, ℕ, ◌<◌, ◌≤◌, nat_lt, max, Bool, true, false, ◌||◌, ◌+◌, if◌then◌else◌, List, [], ◌∷◌, ◌++◌, length, length-append, append_assoc, append-nil, Option, None, Some, refl, sym, ◌∙◌, ap, map, arith}
+use Rattle.std.proofs.lemmas.Bool.Decides.{nat_tests}
+use Rattle.match_expr.specs.declared.expr.FlatRule.{FlatRule}
+use Rattle.primitives.specs.declared.prim.Prim_.{Prim_}
+use Rattle.closure.specs.Stream.{cut_out}
+use Rattle.box_norm.specs.declared.cube.Cube.{Cube}
+use Rattle.box_norm.specs.declared.cube.SimpleRule.{SimpleRule}
+use Rattle.box_norm.specs.Cuts.{Work, cuts_by}
+use Rattle.box_norm.specs.Normal.{boxes_of, normal_of, whole_of, with_verdict}
+use Rattle.box_norm.specs.Regular.{AreRegular}
+use Rattle.box_norm.proofs.Normals.{length_verdicts}
+use Rattle.box_norm.proofs.RegularLaws.{more_regular}
+use Rattle.simple_filter.specs.Collected.{within_limit, cut_by, is_over, some_over, rules_of, all_rules, whole_cubes, HasTaken}
+
+or_assoc : (a b c : Bool) → ((a || b) || c) ≡ (a || (b || c))
+or_assoc true b c = refl
+or_assoc false b c = refl
+
+or_none : (a : Bool) → (a || false) ≡ a
+or_none true = refl
+or_none false = refl
+
+or_true : (a : Bool) → (a || true) ≡ true
+or_true true = refl
+or_true false = refl
+
+-- a state that was opened
+pub is_none : {X : Type 0} (over : Bool) (list : X) (state : Option X) → (if over then None else Some list) ≡ state → over ≡ true → None ≡ state
+is_none true list state v e = v
+is_none false list state v e = absurd (grind (arith, e))
+
+pub is_some : {X : Type 0} (over : Bool) (list : X) (state : Option X) → (if over then None else Some list) ≡ state → over ≡ false → Some list ≡ state
+is_some true list state v e = absurd (grind (arith, e))
+is_some false list state v e = v
+
+abbrev States : ℕ → Type 0
+States W = List (Option (List (Cube W)) × Bool)
+
+module _ {W : ℕ} where
+  over_append : (xs : States W) (x : Option (List (Cube W)) × Bool) → some_over (xs ++ x ∷ []) ≡ (some_over xs || is_over x.0)
+  over_append [] x = or_none (is_over x.0)
+  over_append (y ∷ xs) x = rw (over_append xs x) (sym (or_assoc (is_over y.0) (some_over xs) (is_over x.0)))
+
+  rules_append : (xs : States W) (x : Option (List (Cube W)) × Bool) → all_rules (xs ++ x ∷ []) ≡ all_rules xs ++ rules_of x.0 x.1
+  rules_append [] x = append-nil (rules_of x.0 x.1)
+  rules_append (y ∷ xs) x = rw (rules_append xs x) (sym (append_assoc (rules_of y.0 y.1) (all_rules xs) (rules_of x.0 x.1)))
+
+  pub taken_none : HasTaken {W = W} [] false false []
+  taken_none = record { boxes = refl; rules = λ h. refl; few = λ h. omega arith; many = λ h. absurd (grind (arith, h)); regular = tt }
+
+  -- one more
+  module _ (rules : List (SimpleRule W)) (full boxes : Bool) (xs : States W) (h : HasTaken rules full boxes xs) (accept : Bool) where
+    pub taken_over : HasTaken rules full true (xs ++ (None, accept) ∷ [])
+    taken_over =
+        let same : all_rules (xs ++ (None, accept) ∷ []) ≡ all_rules xs = rules_append xs (None, accept) ∙ append-nil (all_rules xs) in
+        record {
+          boxes = sym (over_append xs (None, accept) ∙ or_true (some_over xs));
+          rules = λ f. h.rules f ∙ sym same;
+          few = λ f. rw same (h.few f);
+          many = λ f. rw same (h.many f);
+          regular = h.regular;
+        }
+
+    module _ (cubes : List (Cube W)) where
+      more : all_rules (xs ++ (Some cubes, accept) ∷ []) ≡ all_rules xs ++ with_verdict accept cubes
+      more = rules_append xs (Some cubes, accept)
+
+      long : length (all_rules (xs ++ (Some cubes, accept) ∷ [])) ≡ length (all_rules xs) + length cubes
+      long = ap length more ∙ length-append (all_rules xs) (with_verdict accept cubes) ∙ ap (λ z. length (all_rules xs) + z) (length_verdicts accept cubes)
+
+      same_boxes : boxes ≡ some_over (xs ++ (Some cubes, accept) ∷ [])
+      same_boxes = h.boxes ∙ sym (over_append xs (Some cubes, accept) ∙ or_none (some_over xs))
+
+      too_many : (b : Bool) → full ≡ b → (b ≡ false → 131072 < length rules + length cubes) → 131072 < length (all_rules (xs ++ (Some cubes, accept) ∷ []))
+      too_many true f m = omega (arith, h.many f, long)
+      too_many false f m = omega (arith, m refl, ap length (h.rules f), long)
+
+      -- too many rules now, or before
+      pub taken_full : (full ≡ false → 131072 < length rules + length cubes) → HasTaken rules true boxes (xs ++ (Some cubes, accept) ∷ [])
+      taken_full m = record {
+        boxes = same_boxes;
+        rules = λ f. absurd (grind (arith, f));
+        few = λ f. absurd (grind (arith, f));
+        many = λ f. too_many full refl (λ e. m e);
+        regular = h.regular;
+      }
+
+      pub taken_more : full ≡ false → length rules + length cubes ≤ 131072 → AreRegular cubes → HasTaken (rules ++ with_verdict accept cubes) false boxes (xs ++ (Some cubes, accept) ∷ [])
+      taken_more f small r = record {
+        boxes = same_boxes;
+        rules = λ g. ap (λ z. z ++ with_verdict accept cubes) (h.rules f) ∙ sym more;
+        few = λ g. omega (arith, small, ap length (h.rules f), long);
+        many = λ g. absurd (grind (arith, g));
+        regular = more_regular rules accept cubes h.regular r;
+      }
+
+-- by the flat list
+module _ (W : ℕ) where
+  abbrev states : List (FlatRule (Prim_ W)) → List (Option (List (Cube W)) × Bool)
+  states rules = map (cut_out (cut_by {W = W}) (whole_cubes W)) rules
+
+  over_is : (work : Work W) → is_over (within_limit work) ≡ nat_lt 16384 work.longest
+  over_is work = by (nat_lt 16384 work.longest)
+    where
+      by : (b : Bool) → is_over (if b then None else Some work.list) ≡ b
+      by true = refl
+      by false = refl
+
+  or_max : (a b : ℕ) → (nat_lt 16384 a || nat_lt 16384 b) ≡ nat_lt 16384 (max a b)
+  or_max a b = grind (arith, nat_tests)
+
+  pub over_boxes : (rules : List (FlatRule (Prim_ W))) → some_over (states rules) ≡ nat_lt 16384 (boxes_of rules)
+  over_boxes [] = refl
+  over_boxes (rule ∷ rules) = rw (over_boxes rules, over_is ((cuts_by {W = W} rule.expr).keep (whole_of W ∷ []))) (or_max ((cuts_by {W = W} rule.expr).keep (whole_of W ∷ [])).longest (boxes_of rules))
+
+  rules_if : (b accept : Bool) (list : List (Cube W)) → b ≡ false → rules_of (if b then None else Some list) accept ≡ with_verdict accept list
+  rules_if true accept list h = absurd (grind (arith, h))
+  rules_if false accept list h = refl
+
+  pub rules_normal : (rules : List (FlatRule (Prim_ W))) → boxes_of rules ≤ 16384 → all_rules (states rules) ≡ normal_of rules
+  rules_normal [] h = refl
+  rules_normal (rule ∷ rules) h =
+      rw (
+        rules_normal rules (grind (arith, h)),
+        rules_if (nat_lt 16384 ((cuts_by {W = W} rule.expr).keep (whole_of W ∷ [])).longest) rule.accept ((cuts_by {W = W} rule.expr).keep (whole_of W ∷ [])).list (grind (arith, nat_tests, h)),
+      ) refl
+
+  -- all of the flat list
+  module _ (rules : List (FlatRule (Prim_ W))) (taken : List (SimpleRule W)) (full boxes : Bool) (h : HasTaken taken full boxes (states rules)) where
+    pub boxes_pass : boxes ≡ true → 16384 < boxes_of rules
+    boxes_pass b = grind (arith, nat_tests, b, h.boxes ∙ over_boxes rules)
+
+    pub boxes_keep : boxes ≡ false → boxes_of rules ≤ 16384
+    boxes_keep b = grind (arith, nat_tests, b, h.boxes ∙ over_boxes rules)
+
+    pub rules_pass : boxes ≡ false → full ≡ true → 131072 < length (normal_of rules)
+    rules_pass b f = rw (← rules_normal rules (boxes_keep b)) (h.many f)
+
+    pub rules_keep : boxes ≡ false → full ≡ false → length (normal_of rules) ≤ 131072
+    rules_keep b f = rw (← rules_normal rules (boxes_keep b)) (h.few f)
+
+    pub rules_are : boxes ≡ false → full ≡ false → taken ≡ normal_of rules
+    rules_are b f = h.rules f ∙ rules_normal rules (boxes_keep b)
