@@ -1,7 +1,6 @@
 -- What each line of a cube can say.
 use Rattle.std.proofs.Common.{◌≡◌, ◌∙◌, ◌++◌, ◌∷◌, ◌+◌, ◌-◌, ◌*◌, ◌^◌, ◌<◌, ◌≤◌, ◌==◌, ◌⊎◌, [], ℕ, zero, suc, List, Bool, true, false, inl, inr, nat_le, refl, sym, ap, subst, arith, decimal, map, if◌then◌else◌, Contains, lit<, lit≤}
 use Rattle.std.specs.List.{AllByRecursion, flat_map}
-use Rattle.std.proofs.lemmas.Bool.Decides.{nat_tests}
 use Rattle.std.proofs.lemmas.List.Elements.{All-contains, All-from_recursion}
 use Rattle.interval_set.specs.declared.set.Range.{Range}
 use Rattle.interval_set.specs.Numbers.{Ascends, IsSet}
@@ -23,16 +22,14 @@ use Rattle.dump_print.specs.Protocols.{protocols_of}
 use Rattle.dump_print.specs.Sets.{HasSets}
 use Rattle.printed_text.proofs.ProtocolParts.{single_only}
 use Rattle.printed_text.proofs.PortParts.{HasOnePorts, IsFlagCube, IsReadable}
+use Rattle.printed_text.proofs.ListLemmas.{all_joined}
+use Rattle.printed_text.proofs.WordLemmas.{same_number}
 
 -- ---- lists of lists
-all_joined : {A : Type 0} (Q : A → Type 0) (a b : List A) → AllByRecursion Q a → AllByRecursion Q b → AllByRecursion Q (a ++ b)
-all_joined Q [] b p q = q
-all_joined Q (x ∷ a) b p q = (p.0, all_joined Q a b p.1 q)
-
-all_flat : {X A : Type 0} (P : X → Type 0) (Q : A → Type 0) (f : X → List A) → ((x : X) → P x → AllByRecursion Q (f x))
+all_in_lists : {X A : Type 0} (P : X → Type 0) (Q : A → Type 0) (f : X → List A) → ((x : X) → P x → AllByRecursion Q (f x))
     → (xs : List X) → AllByRecursion P xs → AllByRecursion Q (flat_map f xs)
-all_flat P Q f each [] p = tt
-all_flat P Q f each (x ∷ xs) p = all_joined Q (f x) (flat_map f xs) (each x p.0) (all_flat P Q f each xs p.1)
+all_in_lists P Q f each [] p = tt
+all_in_lists P Q f each (x ∷ xs) p = all_joined Q (f x) (flat_map f xs) (each x p.0) (all_in_lists P Q f each xs p.1)
 
 all_mapped : {X A : Type 0} (P : X → Type 0) (Q : A → Type 0) (f : X → A) → ((x : X) → P x → Q (f x))
     → (xs : List X) → AllByRecursion P xs → AllByRecursion Q (map f xs)
@@ -66,21 +63,21 @@ module _ (W : ℕ) (protocols : Protocols) (axes : Axes) (are : AreSayable W pro
   dports_sayable : (line : Choice) → IsRangeOf W line.source → IsRangeOf W line.destination → IsReadable protocols line.sports
       → AllByRecursion (IsSayable W protocols) (with_dports line axes)
   dports_sayable line source destination sports =
-      all_flat (IsReadable protocols) (IsSayable W protocols) (λ ports. with_flags (record line { dports = ports }) axes.flags)
+      all_in_lists (IsReadable protocols) (IsSayable W protocols) (λ ports. with_flags (record line { dports = ports }) axes.flags)
       (λ ports is. flags_sayable (record line { dports = ports }) source destination sports is) axes.dports are.dports
 
   sports_sayable : (line : Choice) → IsRangeOf W line.source → IsRangeOf W line.destination → AllByRecursion (IsSayable W protocols) (with_sports line axes)
   sports_sayable line source destination =
-      all_flat (IsReadable protocols) (IsSayable W protocols) (λ ports. with_dports (record line { sports = ports }) axes)
+      all_in_lists (IsReadable protocols) (IsSayable W protocols) (λ ports. with_dports (record line { sports = ports }) axes)
       (λ ports is. dports_sayable (record line { sports = ports }) source destination is) axes.sports are.sports
 
   destinations_sayable : (source : Range) → IsRangeOf W source → AllByRecursion (IsSayable W protocols) (with_destinations source axes)
   destinations_sayable source is =
-      all_flat (IsRangeOf W) (IsSayable W protocols) (λ destination. with_sports (between source destination) axes)
+      all_in_lists (IsRangeOf W) (IsSayable W protocols) (λ destination. with_sports (between source destination) axes)
       (λ destination same. sports_sayable (between source destination) is same) axes.destinations are.destinations
 
   all_sayable : AllByRecursion (IsSayable W protocols) (choices_in axes)
-  all_sayable = all_flat (IsRangeOf W) (IsSayable W protocols) (λ source. with_destinations source axes) destinations_sayable axes.sources are.sources
+  all_sayable = all_in_lists (IsRangeOf W) (IsSayable W protocols) (λ source. with_destinations source axes) destinations_sayable axes.sources are.sources
 
 -- ---- addresses
 ranges_of : (w from : ℕ) (rs : List Range) → Ascends (2 ^ w - 1) from rs → AllByRecursion (IsRangeOf w) rs
@@ -88,9 +85,6 @@ ranges_of w from [] a = tt
 ranges_of w from (r ∷ rs) a = ((a.1, a.2), ranges_of w (r.hi + 2) rs a.3)
 
 -- ---- ports
-same_number : (a b : ℕ) → (a == b) ≡ true → a ≡ b
-same_number a b e = grind (arith, nat_tests)
-
 read_port : (r : Range) → IsRangeOf 16 r → (b : Bool) → (r.lo == r.hi) ≡ b → IsPortRange (if b then decimal r.lo else decimal r.lo ++ 58 ∷ decimal r.hi) r
 read_port r is true e = (omega (arith, is.1), inl (refl, same_number r.lo r.hi e))
 read_port r is false e = (omega (arith, is.1), inr (refl, is.0))

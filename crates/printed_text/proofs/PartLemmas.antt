@@ -10,7 +10,8 @@ use Rattle.dump_grammar.specs.Groups.{AreGroups, Base, Group, IsOptionName, Modu
 use Rattle.dump_grammar.specs.Lines.{Text, Word, bare, texts}
 use Rattle.dump_grammar.specs.Literals.{AreLiterals, IsBaseLiteral, modules_literals, option_follows, text_of}
 use Rattle.dump_print.specs.Parts.{has_words, module_words}
-use Rattle.printed_text.proofs.WordLemmas.{CanStand, mark_is_written, module_mark_is_written, written_joined}
+use Rattle.printed_text.proofs.WordLemmas.{CanStand, mark_is_written, module_mark_is_written}
+use Rattle.printed_text.proofs.ListLemmas.{all_joined}
 
 -- the options of two lists of groups
 pub base_joined : (a b : List Group) → base_of (a ++ b) ≡ base_of a ++ base_of b
@@ -104,7 +105,7 @@ module _ {W : ℕ} (Reads : Text → ℕ → Type 0) (Knows : List Group → Typ
     gives = λ all knows more others are. join_literals all p.groups q.groups more l1 l2 others
         (p.gives all knows (q.groups ++ more) (l2 ++ others) (q.gives all knows more others are));
     based = base_joined p.groups q.groups ∙ ap (λ (os : List Text). os ++ base_of q.groups) p.based ∙ ap (λ (os : List Text). o1 ++ os) q.based;
-    written = written_joined w1 w2 p.written q.written;
+    written = all_joined CanStand w1 w2 p.written q.written;
   }
 
   none_joined : (w1 w2 : List Word) (l1 l2 : List (Lit (Prim_ W))) → (has_words w1 ≡ false → l1 ≡ []) → (has_words w2 ≡ false → l2 ≡ [])
@@ -120,7 +121,7 @@ module _ {W : ℕ} (Reads : Text → ℕ → Type 0) (Knows : List Group → Typ
     gives = λ all knows more others are. join_literals all p.groups q.groups more l1 l2 others
         (p.gives all knows (q.groups ++ more) (l2 ++ others) (q.gives all knows more others are));
     based = base_joined p.groups q.groups ∙ ap (λ (os : List Text). os ++ base_of q.groups) p.based ∙ q.based;
-    written = written_joined w1 w2 p.written q.written;
+    written = all_joined CanStand w1 w2 p.written q.written;
     none = none_joined w1 w2 l1 l2 p.none q.none;
   }
 

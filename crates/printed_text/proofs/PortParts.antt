@@ -1,7 +1,6 @@
 -- The parts of a line that name ports, flags and states.
 use Rattle.std.proofs.Common.{◌≡◌, ◌++◌, ◌∷◌, ◌^◌, ◌<◌, ◌≤◌, ◌==◌, ◌⊎◌, [], ℕ, List, Bool, true, false, Some, inl, inr, length, refl, ap, arith, codes, decimal, if◌then◌else◌, lit<, lit≤}
 use Rattle.std.specs.List.{AllByRecursion, flat_map, slice_split}
-use Rattle.std.proofs.lemmas.Bool.Decides.{nat_tests}
 use Rattle.interval_set.specs.declared.set.Range.{Range}
 use Rattle.match_expr.specs.declared.expr.Expr.{Expr}
 use Rattle.match_expr.specs.declared.expr.Expr.TheVariants.{Prim}
@@ -19,15 +18,12 @@ use Rattle.dump_print.specs.Ports.{Ports, port_list, port_text}
 use Rattle.dump_print.specs.Protocols.{protocol_text}
 use Rattle.dump_print.specs.States.{states_text}
 use Rattle.printed_filter.specs.Literals.{flags_literals, listed_literals, number_of, own_literals, own_module_literals, single_literals, state_literals, yes}
-use Rattle.printed_text.proofs.WordLemmas.{CanStand, IsClean, clean_decimal, clean_is_written, clean_joined, code_is_written, some_decimal, some_joined}
+use Rattle.printed_text.proofs.WordLemmas.{CanStand, IsClean, clean_decimal, clean_is_written, clean_joined, code_is_written, same_number, some_decimal, some_joined}
 use Rattle.printed_text.proofs.WordListLemmas.{flags_spelled, flags_written, states_listed, states_written}
 use Rattle.printed_text.proofs.PartLemmas.{IsInner, IsPart, join_inner, module_part, no_inner, no_part, option_part}
 use Rattle.printed_text.proofs.ProtocolParts.{Knowing, protocol_spells}
 
 -- ---- the words of ports
-same_number : (a b : ℕ) → (a == b) ≡ true → a ≡ b
-same_number a b e = grind (arith, nat_tests)
-
 -- ports are small numbers
 abbrev IsSmall : Range → Type 0
 IsSmall r = (r.lo < 2 ^ 16) × (r.hi < 2 ^ 16)

@@ -19,13 +19,10 @@ use Rattle.dump_print.specs.Parts.{option_words, protocol_words}
 use Rattle.dump_print.specs.Protocols.{name_of, protocol_text, protocols_of, protocols_without}
 use Rattle.printed_filter.specs.Literals.{no, protocol_literals, yes}
 use Rattle.printed_text.proofs.NumberLemmas.{IsNumber, lacked_number}
-use Rattle.printed_text.proofs.WordLemmas.{CanStand, clean_decimal, clean_is_written, code_is_written, is_clean, some_decimal}
+use Rattle.printed_text.proofs.WordLemmas.{CanStand, clean_decimal, clean_is_written, code_is_written, is_clean, same_number, some_decimal}
 use Rattle.printed_text.proofs.PartLemmas.{IsPart, MaybePart, base_part, no_part}
 
 -- ---- how a protocol is written
-same_number : (a b : ℕ) → (a == b) ≡ true → a ≡ b
-same_number a b e = grind (arith, nat_tests)
-
 -- each name is read as its number, and can stand in a line
 abbrev AreNames : List Named → Type 0
 AreNames words = AllByRecursion (λ (word : Named). (number_in proto_names word.name ≡ Some word.number) × (is_clean word.name ≡ true)) words

@@ -38,7 +38,8 @@ use Rattle.printed_text.proofs.NumberLemmas.{IsNumber}
 use Rattle.printed_text.proofs.PartLemmas.{IsPart, chosen, join_parts, no_part}
 use Rattle.printed_text.proofs.PortParts.{destination_list_part, own_part, source_list_part, state_part}
 use Rattle.printed_text.proofs.ProtocolParts.{Knowing, is_sayable, protocol_part, protocols_part}
-use Rattle.printed_text.proofs.WordLemmas.{CanStand, both_true, code_is_written, written_joined}
+use Rattle.printed_text.proofs.WordLemmas.{CanStand, both_true, code_is_written}
+use Rattle.printed_text.proofs.ListLemmas.{all_joined}
 
 -- ---- no option stands twice
 abbrev all_bools : (Bool → Bool) → Bool
@@ -96,7 +97,7 @@ target_written target written = (code_is_written (codes "-j") refl, (written, tt
 line_written : (chain target : Text) (words : List Word) → CanStand (bare chain) → AllByRecursion CanStand words → CanStand (bare target)
     → AllByRecursion CanStand (rule_words chain words target)
 line_written chain target words named parts written =
-    (code_is_written (codes "-A") refl, (named, written_joined words (option_words (codes "-j") (bare target)) parts (target_written target written)))
+    (code_is_written (codes "-A") refl, (named, all_joined CanStand words (option_words (codes "-j") (bare target)) parts (target_written target written)))
 
 -- nothing needs to be known
 abbrev Nothing : List Group → Type 0

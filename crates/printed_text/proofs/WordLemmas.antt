@@ -1,5 +1,5 @@
 -- Words that stand in a line as they are meant.
-use Rattle.std.proofs.Common.{◌≡◌, ◌≢◌, ◌++◌, ◌∷◌, ◌^◌, ◌<◌, ◌&&◌, [], ℕ, List, Bool, true, false, not, inl, inr, nat_lt, length, refl, arith, codes, decimal, length-append}
+use Rattle.std.proofs.Common.{◌≡◌, ◌==◌, ◌≢◌, ◌++◌, ◌∷◌, ◌^◌, ◌<◌, ◌&&◌, [], ℕ, Bool, true, false, not, inl, inr, nat_lt, length, refl, arith, codes, decimal, length-append}
 use Rattle.std.specs.List.{AllByRecursion, list_all}
 use Rattle.std.specs.Char.{digit_value}
 use Rattle.std.specs.Str.Parse.{AllDigits}
@@ -13,15 +13,11 @@ use Rattle.dump_grammar.specs.Lines.{IsLine, Text, Word, bare}
 use Rattle.dump_grammar.specs.Printable.{IsPrintable}
 use Rattle.dump_print.specs.Names.{begins_plainly, is_bare, is_plain_byte, name_word, pattern_name}
 use Rattle.dump_print.specs.Written.{IsWritten}
+use Rattle.printed_text.proofs.ListLemmas.{all_joined}
 
 -- a word that stands in a line as it is meant, and has no line feed
 abbrev pub CanStand : Word → Type 0
 CanStand word = IsWritten word × IsLine word.text
-
--- the words of two lists can stand in a line
-pub written_joined : (a b : List Word) → AllByRecursion CanStand a → AllByRecursion CanStand b → AllByRecursion CanStand (a ++ b)
-written_joined [] b p q = q
-written_joined (word ∷ a) b p q = (p.0, written_joined a b p.1 q)
 
 -- each byte is above the quote, which is above the blanks
 abbrev pub IsClean : Text → Type 0
@@ -35,8 +31,11 @@ pub both_true : (a b : Bool) → (a && b) ≡ true → (a ≡ true) × (b ≡ tr
 both_true true b e = (refl, e)
 both_true false b e = let wrong : false ≡ true = e in cc
 
-above : (a b : ℕ) → nat_lt a b ≡ true → a < b
+pub above : (a b : ℕ) → nat_lt a b ≡ true → a < b
 above a b e = grind (arith, nat_tests)
+
+pub same_number : (a b : ℕ) → (a == b) ≡ true → a ≡ b
+same_number a b e = grind (arith, nat_tests)
 
 pub clean_from : (text : Text) → list_all (λ b. nat_lt 34 b) text ≡ true → IsClean text
 clean_from [] e = tt
@@ -69,8 +68,7 @@ code_is_written text e =
     clean_is_written text (above 0 (length text) both.0) (clean_from text both.1)
 
 pub clean_joined : (a b : Text) → IsClean a → IsClean b → IsClean (a ++ b)
-clean_joined [] b p q = q
-clean_joined (x ∷ a) b p q = (p.0, clean_joined a b p.1 q)
+clean_joined a b p q = all_joined (λ b. 34 < b) a b p q
 
 pub mark_is_written : CanStand (bare (codes "!"))
 mark_is_written = (inr (refl, (λ (e : 33 ≡ 34). omega arith, refl), (refl, tt)), (omega arith, tt))
@@ -120,13 +118,9 @@ some_begun : (text : Text) → begins_plainly text ≡ true → 0 < length text
 some_begun [] e = let wrong : false ≡ true = e in cc
 some_begun (b ∷ text) e = omega arith
 
-line_joined : (a b : Text) → IsLine a → IsLine b → IsLine (a ++ b)
-line_joined [] b p q = q
-line_joined (x ∷ a) b p q = (p.0, line_joined a b p.1 q)
-
 pattern_line : (pattern : Pattern) → IsPrintable pattern → IsLine (pattern_name pattern)
 pattern_line (Pattern.Exact name) is = is.3
-pattern_line (Pattern.Prefix front) is = line_joined front (codes "+") is.1 (omega arith, tt)
+pattern_line (Pattern.Prefix front) is = all_joined (λ b. b ≢ 10) front (codes "+") is.1 (omega arith, tt)
 
 name_written : (b : Bool) (text : Text) → is_bare text ≡ b → IsLine text → CanStand (record { text = text; quoted = not b })
 name_written false text e line = (inl refl, line)

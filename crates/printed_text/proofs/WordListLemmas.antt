@@ -8,7 +8,7 @@ use Rattle.dump_grammar.specs.Arguments.{IsStateList, state_of, states_of}
 use Rattle.dump_grammar.specs.Lines.{Text, bare}
 use Rattle.dump_print.specs.Flags.{all_below, flags_text, name_list, names_of}
 use Rattle.dump_print.specs.States.{states_text}
-use Rattle.printed_text.proofs.WordLemmas.{CanStand, both_true, code_is_written, is_clean}
+use Rattle.printed_text.proofs.WordLemmas.{CanStand, above, both_true, code_is_written, is_clean, same_number}
 
 all_at : (m n : ℕ) (test : ℕ → Bool) → all_below m test ≡ true → n < m → test n ≡ true
 all_at zero n test e l = absurd (omega arith)
@@ -21,9 +21,6 @@ all_at (suc m) n test e l =
 abbrev is_some_of : Option ℕ → ℕ → Bool
 is_some_of None n = false
 is_some_of (Some a) n = a == n
-
-same_number : (a b : ℕ) → (a == b) ≡ true → a ≡ b
-same_number a b e = grind (arith, nat_tests)
 
 some_of : (o : Option ℕ) (n : ℕ) → is_some_of o n ≡ true → o ≡ Some n
 some_of None n e = let wrong : false ≡ true = e in cc
@@ -68,9 +65,6 @@ flags_read = refl
 
 flags_clean : all_below 64 (λ n. is_clean (flags_text n)) ≡ true
 flags_clean = refl
-
-above : (a b : ℕ) → nat_lt a b ≡ true → a < b
-above a b e = grind (arith, nat_tests)
 
 some_from : (n : ℕ) → (n == 0) ≡ false → 1 ≤ n
 some_from n e = grind (arith, nat_tests)
