@@ -18,8 +18,9 @@ use Rattle.dump_grammar.specs.Literals.{IsBaseLiteral, IsNetLiteral}
 use Rattle.dump_print.specs.Addresses.{IsRangeOf, is_everything, net_words, net_words_of, prefix_length, prefix_length_to, range_words, range_words_of, same_range}
 use Rattle.dump_print.specs.Parts.{both_words, iprange_words}
 use Rattle.printed_filter.specs.Literals.{net_literals, other_literal, prefix_literal, range_literals, yes}
-use Rattle.printed_text.proofs.WordLemmas.{CanStand, IsClean, clean_address, clean_decimal, clean_from, clean_is_written, clean_joined, code_is_written, some_joined}
+use Rattle.printed_text.proofs.WordLemmas.{CanStand, IsClean, clean_address, clean_decimal, clean_from, clean_is_written, code_is_written, some_joined}
 use Rattle.printed_text.proofs.PartLemmas.{IsInner, IsPart, MaybePart, base_part, join_inner, module_part, no_inner, no_part, option_part}
+use Rattle.printed_text.proofs.ListLemmas.{all_joined}
 
 -- ---- the length of a prefix
 same_ends : (a b : Range) → same_range a b ≡ true → (a.lo ≡ b.lo) × (a.hi ≡ b.hi)
@@ -111,8 +112,8 @@ module _ {W : ℕ} (Reads : Text → ℕ → Type 0) (Knows : List Group → Typ
   net_written r len is l =
       let reads = reads_low r is in
       clean_is_written (net_text r len) (some_joined (text_of r.lo) (codes "/" ++ decimal len) (address_some r.lo reads))
-      (clean_joined (text_of r.lo) (codes "/" ++ decimal len) (address_clean r.lo reads)
-      (clean_joined (codes "/") (decimal len) (clean_from (codes "/") refl) (clean_decimal len (omega (arith, l, width_small W width)))))
+      (all_joined (λ b. 34 < b) (text_of r.lo) (codes "/" ++ decimal len) (address_clean r.lo reads)
+      (all_joined (λ b. 34 < b) (codes "/") (decimal len) (clean_from (codes "/") refl) (clean_decimal len (omega (arith, l, width_small W width)))))
 
   -- the option says where an address lies
   abbrev SaysNet : Text → (List Range → Prim_ W) → Type 0
@@ -158,8 +159,8 @@ module _ {W : ℕ} (Reads : Text → ℕ → Type 0) (Knows : List Group → Typ
       let low = reads_low r is in
       let high = reads_high r is in
       clean_is_written (range_text r) (some_joined (text_of r.lo) (codes "-" ++ text_of r.hi) (address_some r.lo low))
-      (clean_joined (text_of r.lo) (codes "-" ++ text_of r.hi) (address_clean r.lo low)
-      (clean_joined (codes "-") (text_of r.hi) (clean_from (codes "-") refl) (address_clean r.hi high)))
+      (all_joined (λ b. 34 < b) (text_of r.lo) (codes "-" ++ text_of r.hi) (address_clean r.lo low)
+      (all_joined (λ b. 34 < b) (codes "-") (text_of r.hi) (clean_from (codes "-") refl) (address_clean r.hi high)))
 
   -- the option of iprange says where an address lies
   abbrev SaysRange : Text → (List Range → Prim_ W) → Type 0

@@ -1,9 +1,9 @@
 -- The names of chains, and the lines that declare them.
-use Rattle.std.proofs.Common.{◌≡◌, ◌≢◌, ◌∙◌, ◌+◌, ◌^◌, ◌<◌, ◌≤◌, ◌%◌, ◌&&◌, ◌||◌, ℕ, [], ◌∷◌, Bool, true, false, Option, Some, None, length, refl, ap, sym, subst, arith, inl, inr, codes, decimal, zero, suc}
-use Rattle.std.specs.Prelude.{◌⊎◌, get_or, is_some, nat_le}
-use Rattle.std.specs.List.{AllByRecursion, list_all}
+use Rattle.std.proofs.Common.{◌≡◌, ◌≢◌, ◌∙◌, ◌+◌, ◌^◌, ◌<◌, ◌%◌, ◌&&◌, ◌||◌, ℕ, [], ◌∷◌, Bool, true, false, Option, Some, None, length, refl, ap, sym, subst, arith, inl, inr, codes, decimal, zero, suc}
+use Rattle.std.specs.Prelude.{◌⊎◌, get_or, is_some}
+use Rattle.std.specs.List.{AllByRecursion}
 use Rattle.std.specs.Str.{bytes_eq}
-use Rattle.std.proofs.lemmas.Bool.{and_parts, leb-true, ne_eqb, or_cases}
+use Rattle.std.proofs.lemmas.Bool.{ne_eqb, or_cases}
 use Rattle.std.proofs.lemmas.Fmt.{decimal_by_steps, decimal_injective}
 use Rattle.std.proofs.lemmas.Slice.Eq.{bytes_eq-Decides}
 use Rattle.fw_rule.specs.declared.rule.Verdict.{Verdict}
@@ -11,9 +11,10 @@ use Rattle.dump_grammar.specs.ChainLines.{IsChainLine, IsCounterText, IsDigit, b
 use Rattle.dump_grammar.specs.Lines.{Text, bare}
 use Rattle.dump_print.specs.Helpers.{helper_name}
 use Rattle.dump_print.specs.Printed.{chain_words}
-use Rattle.dump_print.specs.Written.{IsWritten, KeepsWords}
-use Rattle.printed_text.proofs.ListLemmas.{all_joined, all_since}
-use Rattle.printed_text.proofs.TextLines.{HoldsNoFeed, IsPrinted, IsVisible, is_printed, visible_line, visible_word}
+use Rattle.dump_print.specs.Written.{KeepsWords}
+use Rattle.printed_text.proofs.ListLemmas.{all_joined}
+use Rattle.printed_text.proofs.TextLines.{IsPrinted, is_printed}
+use Rattle.printed_text.proofs.WordLemmas.{CanStand, IsClean, clean_decimal, clean_from, clean_is_written, code_is_written}
 
 -- ---- the name of a helper chain
 abbrev pub AreDigits : Text → Type 0
@@ -23,9 +24,6 @@ pub decimal_digits : (n : ℕ) → n < 2 ^ 64 → AreDigits (decimal n)
 decimal_digits n small = decimal_by_steps (λ m ds. AreDigits ds)
     (λ m low. ((omega arith, omega arith), tt))
     (λ m ds low front. all_joined IsDigit ds ((48 + m % 10) ∷ []) front ((omega arith, omega arith), tt)) n small
-
-digits_visible : (text : Text) → AreDigits text → IsVisible text
-digits_visible text h = all_since IsDigit (λ b. 33 ≤ b) (λ b d. omega (arith, d.0)) text h
 
 -- `C` and digits are no target's word
 no_target : (digits : Text) → AreDigits digits → is_among target_words (67 ∷ digits) ≡ false
@@ -37,8 +35,8 @@ no_target (d ∷ digits) h =
 pub helper_allowed : (n : ℕ) → n < 2 ^ 64 → is_among target_words (helper_name n) ≡ false
 helper_allowed n small = no_target (decimal n) (decimal_digits n small)
 
-pub helper_visible : (n : ℕ) → n < 2 ^ 64 → IsVisible (helper_name n)
-helper_visible n small = (omega arith, digits_visible (decimal n) (decimal_digits n small))
+pub helper_clean : (n : ℕ) → n < 2 ^ 64 → IsClean (helper_name n)
+helper_clean n small = (omega arith, clean_decimal n small)
 
 pub helper_once : (m n : ℕ) → m < 2 ^ 64 → n < 2 ^ 64 → helper_name m ≡ helper_name n → m ≡ n
 helper_once m n small other e =
@@ -65,14 +63,8 @@ asked_by P input forward output chain e = first (or_cases (bytes_eq (codes "INPU
     first (inl i) = subst P (equal_true (codes "INPUT") chain i) input
     first (inr rest) = second (or_cases (bytes_eq (codes "FORWARD") chain) (bytes_eq (codes "OUTPUT") chain || false) rest)
 
-visible_by : (text : Text) → list_all (λ b. nat_le 33 b) text ≡ true → IsVisible text
-visible_by [] e = tt
-visible_by (b ∷ text) e =
-    let both = and_parts (nat_le 33 b) (list_all (λ b. nat_le 33 b) text) e in
-    (leb-true 33 b both.0, visible_by text both.1)
-
-pub asked_visible : (chain : Text) → is_among built_in chain ≡ true → IsVisible chain
-asked_visible = asked_by IsVisible (visible_by (codes "INPUT") refl) (visible_by (codes "FORWARD") refl) (visible_by (codes "OUTPUT") refl)
+pub asked_clean : (chain : Text) → is_among built_in chain ≡ true → IsClean chain
+asked_clean = asked_by IsClean (clean_from (codes "INPUT") refl) (clean_from (codes "FORWARD") refl) (clean_from (codes "OUTPUT") refl)
 
 pub asked_allowed : (chain : Text) → is_among built_in chain ≡ true → is_among target_words chain ≡ false
 asked_allowed = asked_by (λ chain. is_among target_words chain ≡ false) refl refl refl
@@ -89,10 +81,10 @@ helper_no_asked n chain asked e =
     let wrong : false ≡ true = sym (asked_no_helper n chain asked) ∙ (bytes_eq-Decides (helper_name n) chain).1 e in cc
 
 -- ---- the lines that declare chains
-policy_written : (policy : Option Verdict) → IsWritten (bare (policy_text policy)) × HoldsNoFeed (bare (policy_text policy))
-policy_written (Some Verdict.Accept) = (visible_word 65 (codes "CCEPT") (omega arith) (visible_by (codes "ACCEPT") refl), visible_line (codes "ACCEPT") (visible_by (codes "ACCEPT") refl))
-policy_written (Some Verdict.Drop) = (visible_word 68 (codes "ROP") (omega arith) (visible_by (codes "DROP") refl), visible_line (codes "DROP") (visible_by (codes "DROP") refl))
-policy_written None = (visible_word 45 [] (omega arith) (visible_by (codes "-") refl), visible_line (codes "-") (visible_by (codes "-") refl))
+policy_stands : (policy : Option Verdict) → CanStand (bare (policy_text policy))
+policy_stands (Some Verdict.Accept) = code_is_written (codes "ACCEPT") refl
+policy_stands (Some Verdict.Drop) = code_is_written (codes "DROP") refl
+policy_stands None = code_is_written (codes "-") refl
 
 no_counts : IsCounterText (codes "[0:0]")
 no_counts = record {
@@ -107,14 +99,10 @@ no_counts = record {
     digit_zero zero d l = (omega arith, omega arith)
     digit_zero (suc k) d l = absurd (omega arith)
 
-pub chain_printed : KeepsWords → (name : Text) (policy : Option Verdict) → IsVisible name → IsPrinted (chain_words name policy)
-chain_printed keeps name policy visible =
-    let front : IsVisible (58 ∷ name) = (omega arith, visible) in
-    let counts = visible_by (codes "[0:0]") refl in
-    let p = policy_written policy in
+pub chain_printed : KeepsWords → (name : Text) (policy : Option Verdict) → IsClean name → IsPrinted (chain_words name policy)
+chain_printed keeps name policy clean =
     is_printed keeps (bare (58 ∷ name)) (bare (policy_text policy) ∷ bare (codes "[0:0]") ∷ [])
-    (visible_word 58 name (omega arith) front, (p.0, (visible_word 91 (codes "0:0]") (omega arith) counts, tt)))
-    (visible_line (58 ∷ name) front, (p.1, (visible_line (codes "[0:0]") counts, tt)))
+    (clean_is_written (58 ∷ name) (omega arith) (omega arith, clean), (policy_stands policy, (code_is_written (codes "[0:0]") refl, tt)))
     refl
 
 chain_declared : (name : Text) (policy : Option Verdict) → name ≢ [] → is_among target_words name ≡ false → is_among built_in name ≡ is_some policy

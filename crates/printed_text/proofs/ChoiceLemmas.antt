@@ -1,7 +1,8 @@
 -- What each line of a cube can say.
 use Rattle.std.proofs.Common.{◌≡◌, ◌∙◌, ◌++◌, ◌∷◌, ◌+◌, ◌-◌, ◌*◌, ◌^◌, ◌<◌, ◌≤◌, ◌==◌, ◌⊎◌, [], ℕ, zero, suc, List, Bool, true, false, inl, inr, nat_le, refl, sym, ap, subst, arith, decimal, map, if◌then◌else◌, Contains, lit<, lit≤}
-use Rattle.std.specs.List.{AllByRecursion, flat_map}
+use Rattle.std.specs.List.{AllByRecursion}
 use Rattle.std.proofs.lemmas.List.Elements.{All-contains, All-from_recursion}
+use Rattle.std.proofs.lemmas.Bool.{eqb-true}
 use Rattle.interval_set.specs.declared.set.Range.{Range}
 use Rattle.interval_set.specs.Numbers.{Ascends, IsSet}
 use Rattle.primitives.specs.Holds.{has_bit}
@@ -22,19 +23,7 @@ use Rattle.dump_print.specs.Protocols.{protocols_of}
 use Rattle.dump_print.specs.Sets.{HasSets}
 use Rattle.printed_text.proofs.ProtocolParts.{single_only}
 use Rattle.printed_text.proofs.PortParts.{HasOnePorts, IsFlagCube, IsReadable}
-use Rattle.printed_text.proofs.ListLemmas.{all_joined}
-use Rattle.printed_text.proofs.WordLemmas.{same_number}
-
--- ---- lists of lists
-all_in_lists : {X A : Type 0} (P : X → Type 0) (Q : A → Type 0) (f : X → List A) → ((x : X) → P x → AllByRecursion Q (f x))
-    → (xs : List X) → AllByRecursion P xs → AllByRecursion Q (flat_map f xs)
-all_in_lists P Q f each [] p = tt
-all_in_lists P Q f each (x ∷ xs) p = all_joined Q (f x) (flat_map f xs) (each x p.0) (all_in_lists P Q f each xs p.1)
-
-all_mapped : {X A : Type 0} (P : X → Type 0) (Q : A → Type 0) (f : X → A) → ((x : X) → P x → Q (f x))
-    → (xs : List X) → AllByRecursion P xs → AllByRecursion Q (map f xs)
-all_mapped P Q f each [] p = tt
-all_mapped P Q f each (x ∷ xs) p = (each x p.0, all_mapped P Q f each xs p.1)
+use Rattle.printed_text.proofs.ListLemmas.{all_joined, flat_since, map_since}
 
 -- ---- the choices
 -- each part of what the line says can be said
@@ -57,27 +46,27 @@ module _ (W : ℕ) (protocols : Protocols) (axes : Axes) (are : AreSayable W pro
   flags_sayable : (line : Choice) → IsRangeOf W line.source → IsRangeOf W line.destination → IsReadable protocols line.sports → IsReadable protocols line.dports
       → AllByRecursion (IsSayable W protocols) (with_flags line axes.flags)
   flags_sayable line source destination sports dports =
-      all_mapped (IsFlagCube protocols) (IsSayable W protocols) (λ cube. record line { flags = cube })
+      map_since (IsFlagCube protocols) (IsSayable W protocols) (λ cube. record line { flags = cube })
       (λ cube is. record { source = source; destination = destination; sports = sports; dports = dports; flags = is }) axes.flags are.flags
 
   dports_sayable : (line : Choice) → IsRangeOf W line.source → IsRangeOf W line.destination → IsReadable protocols line.sports
       → AllByRecursion (IsSayable W protocols) (with_dports line axes)
   dports_sayable line source destination sports =
-      all_in_lists (IsReadable protocols) (IsSayable W protocols) (λ ports. with_flags (record line { dports = ports }) axes.flags)
+      flat_since (IsReadable protocols) (IsSayable W protocols) (λ ports. with_flags (record line { dports = ports }) axes.flags)
       (λ ports is. flags_sayable (record line { dports = ports }) source destination sports is) axes.dports are.dports
 
   sports_sayable : (line : Choice) → IsRangeOf W line.source → IsRangeOf W line.destination → AllByRecursion (IsSayable W protocols) (with_sports line axes)
   sports_sayable line source destination =
-      all_in_lists (IsReadable protocols) (IsSayable W protocols) (λ ports. with_dports (record line { sports = ports }) axes)
+      flat_since (IsReadable protocols) (IsSayable W protocols) (λ ports. with_dports (record line { sports = ports }) axes)
       (λ ports is. dports_sayable (record line { sports = ports }) source destination is) axes.sports are.sports
 
   destinations_sayable : (source : Range) → IsRangeOf W source → AllByRecursion (IsSayable W protocols) (with_destinations source axes)
   destinations_sayable source is =
-      all_in_lists (IsRangeOf W) (IsSayable W protocols) (λ destination. with_sports (between source destination) axes)
+      flat_since (IsRangeOf W) (IsSayable W protocols) (λ destination. with_sports (between source destination) axes)
       (λ destination same. sports_sayable (between source destination) is same) axes.destinations are.destinations
 
   all_sayable : AllByRecursion (IsSayable W protocols) (choices_in axes)
-  all_sayable = all_in_lists (IsRangeOf W) (IsSayable W protocols) (λ source. with_destinations source axes) destinations_sayable axes.sources are.sources
+  all_sayable = flat_since (IsRangeOf W) (IsSayable W protocols) (λ source. with_destinations source axes) destinations_sayable axes.sources are.sources
 
 -- ---- addresses
 ranges_of : (w from : ℕ) (rs : List Range) → Ascends (2 ^ w - 1) from rs → AllByRecursion (IsRangeOf w) rs
@@ -86,7 +75,7 @@ ranges_of w from (r ∷ rs) a = ((a.1, a.2), ranges_of w (r.hi + 2) rs a.3)
 
 -- ---- ports
 read_port : (r : Range) → IsRangeOf 16 r → (b : Bool) → (r.lo == r.hi) ≡ b → IsPortRange (if b then decimal r.lo else decimal r.lo ++ 58 ∷ decimal r.hi) r
-read_port r is true e = (omega (arith, is.1), inl (refl, same_number r.lo r.hi e))
+read_port r is true e = (omega (arith, is.1), inl (refl, eqb-true r.lo r.hi e))
 read_port r is false e = (omega (arith, is.1), inr (refl, is.0))
 
 one_chunk : (P : List Range → Type 0) (r : Range) (b : Bool) → AllByRecursion P (if b then (r ∷ []) ∷ [] else [] ∷ (r ∷ []) ∷ []) → P (r ∷ [])
@@ -95,7 +84,7 @@ one_chunk P r false p = p.1.0
 
 module _ (protocols : Protocols) (has : HasOnePorts protocols) where
   list_readable : (lists : List (List Range)) → AllByRecursion (λ chunk. IsPortList (port_list chunk) chunk) lists → AllByRecursion (IsReadable protocols) (map Ports.Listed lists)
-  list_readable lists are = all_mapped (λ chunk. IsPortList (port_list chunk) chunk) (IsReadable protocols) Ports.Listed (λ chunk is. (is, has)) lists are
+  list_readable lists are = map_since (λ chunk. IsPortList (port_list chunk) chunk) (IsReadable protocols) Ports.Listed (λ chunk is. (is, has)) lists are
 
   one_readable : (r : Range) → IsRangeOf 16 r → CoverPorts (r ∷ []) → (everything own : Bool)
       → AllByRecursion (IsReadable protocols) (if everything then Ports.Every ∷ [] else if own then Ports.Single r ∷ [] else Ports.Listed (r ∷ []) ∷ [])
@@ -132,7 +121,7 @@ IsWithin count cube = (cube.mask < 2 ^ count) × (cube.comp < 2 ^ count)
 beside_within : (count mask comp : ℕ) → mask < 2 → comp < 2 → (cubes : List FlagCube) → AllByRecursion (IsWithin count) cubes
     → AllByRecursion (IsWithin (suc count)) (map (beside mask comp) cubes)
 beside_within count mask comp s t cubes are =
-    all_mapped (IsWithin count) (IsWithin (suc count)) (beside mask comp) (λ cube is. (omega (arith, is.0, s), omega (arith, is.1, t))) cubes are
+    map_since (IsWithin count) (IsWithin (suc count)) (beside mask comp) (λ cube is. (omega (arith, is.0, s), omega (arith, is.1, t))) cubes are
 
 cubes_first : (b : Bool) → AllByRecursion (IsWithin 0) (if b then record { mask = 0; comp = 0 } ∷ [] else [])
 cubes_first true = ((lit< tt, lit< tt), tt)

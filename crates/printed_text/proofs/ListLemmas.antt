@@ -39,6 +39,13 @@ pub all_flat : {X Y : Type 0} (P : Y → Type 0) (f : X → List Y) (xs : List X
 all_flat P f [] p = tt
 all_flat P f (x ∷ xs) p = all_joined P (f x) (flat_map f xs) p.0 (all_flat P f xs p.1)
 
+pub flat_since : {X Y : Type 0} (P : X → Type 0) (Q : Y → Type 0) (f : X → List Y) → ((x : X) → P x → AllByRecursion Q (f x))
+    → (xs : List X) → AllByRecursion P xs → AllByRecursion Q (flat_map f xs)
+flat_since P Q f each xs p = all_flat Q f xs (all_since P (λ x. AllByRecursion Q (f x)) each xs p)
+
+pub map_since : {X Y : Type 0} (P : X → Type 0) (Q : Y → Type 0) (f : X → Y) → ((x : X) → P x → Q (f x)) → (xs : List X) → AllByRecursion P xs → AllByRecursion Q (map f xs)
+map_since P Q f each xs p = all_map Q f xs (all_since P (λ x. Q (f x)) each xs p)
+
 pub first_one : {X : Type 0} (x : X) (xs : List X) → Contains (x ∷ xs) x
 first_one x xs = (0, omega arith, refl)
 

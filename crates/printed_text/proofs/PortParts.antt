@@ -1,6 +1,7 @@
 -- The parts of a line that name ports, flags and states.
 use Rattle.std.proofs.Common.{◌≡◌, ◌++◌, ◌∷◌, ◌^◌, ◌<◌, ◌≤◌, ◌==◌, ◌⊎◌, [], ℕ, List, Bool, true, false, Some, inl, inr, length, refl, ap, arith, codes, decimal, if◌then◌else◌, lit<, lit≤}
 use Rattle.std.specs.List.{AllByRecursion, flat_map, slice_split}
+use Rattle.std.proofs.lemmas.Bool.{eqb-true}
 use Rattle.interval_set.specs.declared.set.Range.{Range}
 use Rattle.match_expr.specs.declared.expr.Expr.{Expr}
 use Rattle.match_expr.specs.declared.expr.Expr.TheVariants.{Prim}
@@ -18,10 +19,11 @@ use Rattle.dump_print.specs.Ports.{Ports, port_list, port_text}
 use Rattle.dump_print.specs.Protocols.{protocol_text}
 use Rattle.dump_print.specs.States.{states_text}
 use Rattle.printed_filter.specs.Literals.{flags_literals, listed_literals, number_of, own_literals, own_module_literals, single_literals, state_literals, yes}
-use Rattle.printed_text.proofs.WordLemmas.{CanStand, IsClean, clean_decimal, clean_is_written, clean_joined, code_is_written, same_number, some_decimal, some_joined}
+use Rattle.printed_text.proofs.WordLemmas.{CanStand, IsClean, clean_decimal, clean_is_written, code_is_written, some_decimal, some_joined}
 use Rattle.printed_text.proofs.WordListLemmas.{flags_spelled, flags_written, states_listed, states_written}
 use Rattle.printed_text.proofs.PartLemmas.{IsInner, IsPart, join_inner, module_part, no_inner, no_part, option_part}
 use Rattle.printed_text.proofs.ProtocolParts.{Knowing, protocol_spells}
+use Rattle.printed_text.proofs.ListLemmas.{all_joined}
 
 -- ---- the words of ports
 -- ports are small numbers
@@ -43,7 +45,7 @@ wide n l = omega arith
 
 clean_port_by : (b : Bool) (r : Range) → IsSmall r → IsClean (if b then decimal r.lo else decimal r.lo ++ 58 ∷ decimal r.hi)
 clean_port_by true r is = clean_decimal r.lo (wide r.lo is.0)
-clean_port_by false r is = clean_joined (decimal r.lo) (58 ∷ decimal r.hi) (clean_decimal r.lo (wide r.lo is.0)) (lit< tt, clean_decimal r.hi (wide r.hi is.1))
+clean_port_by false r is = all_joined (λ b. 34 < b) (decimal r.lo) (58 ∷ decimal r.hi) (clean_decimal r.lo (wide r.lo is.0)) (lit< tt, clean_decimal r.hi (wide r.hi is.1))
 
 clean_port : (r : Range) → IsSmall r → IsClean (port_text r)
 clean_port r is = clean_port_by (r.lo == r.hi) r is
@@ -57,7 +59,7 @@ some_port r is = some_port_by (r.lo == r.hi) r is
 
 clean_more : (rs : List Range) → AllByRecursion IsSmall rs → IsClean (flat_map (λ r. codes "," ++ port_text r) rs)
 clean_more [] are = tt
-clean_more (r ∷ rs) are = (lit< tt, clean_joined (port_text r) (flat_map (λ r. codes "," ++ port_text r) rs) (clean_port r are.0) (clean_more rs are.1))
+clean_more (r ∷ rs) are = (lit< tt, all_joined (λ b. 34 < b) (port_text r) (flat_map (λ r. codes "," ++ port_text r) rs) (clean_port r are.0) (clean_more rs are.1))
 
 port_written : (r : Range) → IsPortRange (port_text r) r → CanStand (bare (port_text r))
 port_written r is = let small = small_range (port_text r) r is in clean_is_written (port_text r) (some_port r small) (clean_port r small)
@@ -67,7 +69,7 @@ ports_written [] is = absurd is.0
 ports_written (r ∷ rs) is =
     let small = small_ranges (slice_split (λ b. b == 44) (port_list (r ∷ rs))) (r ∷ rs) is.0 in
     clean_is_written (port_list (r ∷ rs)) (some_joined (port_text r) (flat_map (λ r. codes "," ++ port_text r) rs) (some_port r small.0))
-    (clean_joined (port_text r) (flat_map (λ r. codes "," ++ port_text r) rs) (clean_port r small.0) (clean_more rs small.1))
+    (all_joined (λ b. 34 < b) (port_text r) (flat_map (λ r. codes "," ++ port_text r) rs) (clean_port r small.0) (clean_more rs small.1))
 
 -- ---- which ports, flags and states a line says
 -- the line says one protocol, and that has ports
@@ -207,8 +209,8 @@ module _ {W : ℕ} (Reads : Text → ℕ → Type 0) where
         else if udp then module_words (codes "udp") (own_words line.sports line.dports line.flags)
         else [])
         (if tcp then own_literals n line else if udp then own_literals n line else [])
-    own_by n line sports dports flags true udp e f = tcp_part n line sports dports flags (same_number n 6 e)
-    own_by n line sports dports flags false true e f = udp_part n line sports dports flags (same_number n 17 f)
+    own_by n line sports dports flags true udp e f = tcp_part n line sports dports flags (eqb-true n 6 e)
+    own_by n line sports dports flags false true e f = udp_part n line sports dports flags (eqb-true n 17 f)
     own_by n line sports dports flags false false e f = no_part Reads Knows
 
     pub own_part : (protocols : Protocols) (line : Choice) → IsReadable protocols line.sports → IsReadable protocols line.dports → IsFlagCube protocols line.flags

@@ -1,5 +1,5 @@
 -- The text of printed rules is their dump.
-use Rattle.std.proofs.Common.{◌≡◌, ◌≢◌, ◌∙◌, ◌++◌, ◌+◌, ◌^◌, ◌<◌, ◌≤◌, ℕ, List, [], ◌∷◌, Bool, true, false, cond, Option, Some, None, map, length, refl, ap, ap₂, sym, subst₂, arith, inl, codes, append_assoc, decimal}
+use Rattle.std.proofs.Common.{◌≡◌, ◌≢◌, ◌∙◌, ◌++◌, ◌+◌, ◌^◌, ◌<◌, ◌≤◌, ℕ, List, [], ◌∷◌, Bool, true, false, cond, Option, Some, None, map, length, refl, ap, ap₂, sym, subst₂, arith, inl, codes, append_assoc}
 use Rattle.std.specs.List.{AllByRecursion, flat_map, position_from}
 use Rattle.std.specs.Str.{bytes_eq}
 use Rattle.std.proofs.lemmas.Iterator.Adapters.{position_from-zero}
@@ -29,21 +29,21 @@ use Rattle.dump_print.specs.Printed.{all_lines, chain_words, printed, target_tex
 use Rattle.dump_print.specs.Protocols.{protocol_text}
 use Rattle.dump_print.specs.Sets.{HasSets}
 use Rattle.dump_print.specs.Spelling.{lines_text}
-use Rattle.dump_print.specs.Written.{IsWritten, KeepsWords}
+use Rattle.dump_print.specs.Written.{KeepsWords}
 use Rattle.printed_filter.specs.Laws.{ArePrintable}
 use Rattle.printed_filter.specs.PrintedDump.{Said, action_to, asked_rules, dump_of_helped, helper_chains_from, helpers_of, placed_from, printed_dump}
 use Rattle.printed_text.specs.Names.{HasPrintableNames}
 use Rattle.printed_text.proofs.Blocks.{Block, HasGoodRules, IsGoodChain, IsGoodRule, RuleText, all_words, block_names, chain_line, chains_from}
-use Rattle.printed_text.proofs.ChainLemmas.{asked_by, asked_declared, asked_no_helper, asked_visible, chain_printed, helper_allowed, helper_declared, helper_no_asked, helper_visible}
+use Rattle.printed_text.proofs.ChainLemmas.{asked_by, asked_declared, asked_no_helper, asked_clean, chain_printed, helper_allowed, helper_declared, helper_no_asked, helper_clean}
 use Rattle.printed_text.proofs.HelperLemmas.{asked_block, asked_line, asked_lines, asked_said, asked_words, helper_block, helper_blocks, helper_texts, helpers_chains, helpers_declared, helpers_length, helpers_words, in_text, out_text, protocol_line, return_text, return_texts, verdict_line}
 use Rattle.printed_text.proofs.HelperNumbers.{IsFoundAt, IsHelperBlock, IsNumberIn, all_helped, blocks_in, helpers_apart, helpers_found, numbers_in}
-use Rattle.printed_text.proofs.ListLemmas.{all_contained, all_flat, all_joined, all_map, all_since}
+use Rattle.printed_text.proofs.ListLemmas.{all_contained, all_joined, all_map, all_since, flat_since, map_since}
 use Rattle.printed_text.proofs.NumberLemmas.{IsNumber}
 use Rattle.printed_text.proofs.ReturnLemmas.{returned_numbers, returned_printable}
 use Rattle.printed_text.proofs.RuleLines.{IsReturn, asked_line_is_rule, asked_line_is_written, input_return, output_return, protocol_return, return_line_is_rule, return_line_is_written, verdict_is_written, verdict_line_is_rule, verdict_line_is_written}
 use Rattle.printed_text.proofs.TableLemmas.{AreGood, closer, opener, table_lines, text_is_dump}
-use Rattle.printed_text.proofs.TextLines.{HoldsNoFeed, IsPrinted, is_printed, visible_line, visible_word}
-use Rattle.printed_text.proofs.WordLemmas.{CanStand, code_is_written}
+use Rattle.printed_text.proofs.TextLines.{IsPrinted, is_printed}
+use Rattle.printed_text.proofs.WordLemmas.{CanStand, clean_is_written, code_is_written}
 
 -- a cube whose lines can be read
 pub record IsFine {W : ℕ} (cube : Cube W) : Type 0 where
@@ -61,7 +61,7 @@ asked_stands : (chain : Text) → is_among built_in chain ≡ true → CanStand 
 asked_stands = asked_by (λ chain. CanStand (bare chain)) (code_is_written (codes "INPUT") refl) (code_is_written (codes "FORWARD") refl) (code_is_written (codes "OUTPUT") refl)
 
 helper_stands : (n : ℕ) → n < 2 ^ 64 → CanStand (bare (helper_name n))
-helper_stands n small = (visible_word 67 (decimal n) (omega arith) (helper_visible n small), visible_line (helper_name n) (helper_visible n small))
+helper_stands n small = clean_is_written (helper_name n) (omega arith) (helper_clean n small)
 
 -- a helper's number is a number of 64 bits
 abbrev IsSmall : Option ℕ → Type 0
@@ -104,20 +104,16 @@ ready_all names end small (h ∷ rules) fine is found =
 module _ (keeps : KeepsWords) where
   -- a rule line can be read
   rule_printed : (chain : Text) (parts : List Word) (target : Text) → AllByRecursion CanStand (rule_words chain parts target) → IsPrinted (rule_words chain parts target)
-  rule_printed chain parts target stands =
-      is_printed keeps (bare (codes "-A")) (bare chain ∷ (parts ++ option_words (codes "-j") (bare target)))
-      (all_since CanStand IsWritten (λ w s. s.0) (rule_words chain parts target) stands)
-      (all_since CanStand HoldsNoFeed (λ w s. s.1) (rule_words chain parts target) stands) refl
+  rule_printed chain parts target stands = is_printed keeps (bare (codes "-A")) (bare chain ∷ (parts ++ option_words (codes "-j") (bare target))) stands refl
 
   one_good_chain : {W : ℕ} (rule : SimpleRule W) (helper : Option ℕ) → IsSmall helper → AllByRecursion IsGoodChain (helper_block rule helper)
   one_good_chain rule None small = tt
   one_good_chain rule (Some n) small =
-      (record { printed = chain_printed keeps (helper_name n) None (helper_visible n small); says = helper_declared n small }, tt)
+      (record { printed = chain_printed keeps (helper_name n) None (helper_clean n small); says = helper_declared n small }, tt)
 
   helper_chains_good : {W : ℕ} (names : List Text) (rules : List (HelpedRule W)) → AllByRecursion (IsReady names) rules → AllByRecursion IsGoodChain (helper_blocks rules)
-  helper_chains_good {W} names rules ready =
-      all_flat IsGoodChain (λ (h : HelpedRule W). helper_block h.rule h.helper) rules
-      (all_since (IsReady names) (λ (h : HelpedRule W). AllByRecursion IsGoodChain (helper_block h.rule h.helper)) (λ h r. one_good_chain h.rule h.helper r.small) rules ready)
+  helper_chains_good names rules ready =
+      flat_since (IsReady names) IsGoodChain (λ h. helper_block h.rule h.helper) (λ h r. one_good_chain h.rule h.helper r.small) rules ready
 
 module _ (W : ℕ) (Reads : Text → ℕ → Type 0) (keeps : KeepsWords) (names : List Text) where
   -- ---- the lines of a helper chain
@@ -138,16 +134,13 @@ module _ (W : ℕ) (Reads : Text → ℕ → Type 0) (keeps : KeepsWords) (names
   returns_good chain cube fine stands =
       let Good = IsGoodRule {W = W} Reads names chain in
       all_joined Good (map (in_text chain) (returned_patterns cube.in_name)) (map (out_text chain) (returned_patterns cube.out_name) ++ map (protocol_line chain) (returned_protocols cube.proto))
-      (all_map Good (in_text chain) (returned_patterns cube.in_name)
-      (all_since IsPrintable (λ p. Good (in_text chain p)) (λ p is. return_good chain (codes "-i") (name_word p) (Prim_.InName p) stands (input_return W Reads p is))
-      (returned_patterns cube.in_name) (returned_printable cube.in_name fine.names.in_name)))
+      (map_since IsPrintable Good (in_text chain) (λ p is. return_good chain (codes "-i") (name_word p) (Prim_.InName p) stands (input_return W Reads p is))
+      (returned_patterns cube.in_name) (returned_printable cube.in_name fine.names.in_name))
       (all_joined Good (map (out_text chain) (returned_patterns cube.out_name)) (map (protocol_line chain) (returned_protocols cube.proto))
-      (all_map Good (out_text chain) (returned_patterns cube.out_name)
-      (all_since IsPrintable (λ p. Good (out_text chain p)) (λ p is. return_good chain (codes "-o") (name_word p) (Prim_.OutName p) stands (output_return W Reads p is))
-      (returned_patterns cube.out_name) (returned_printable cube.out_name fine.names.out_name)))
-      (all_map Good (protocol_line chain) (returned_protocols cube.proto)
-      (all_since IsNumber (λ n. Good (protocol_line chain n)) (λ n is. return_good chain (codes "-p") (bare (protocol_text n)) (Prim_.Proto n) stands (protocol_return W Reads n is))
-      (returned_protocols cube.proto) (returned_numbers cube fine.regular))))
+      (map_since IsPrintable Good (out_text chain) (λ p is. return_good chain (codes "-o") (name_word p) (Prim_.OutName p) stands (output_return W Reads p is))
+      (returned_patterns cube.out_name) (returned_printable cube.out_name fine.names.out_name))
+      (map_since IsNumber Good (protocol_line chain) (λ n is. return_good chain (codes "-p") (bare (protocol_text n)) (Prim_.Proto n) stands (protocol_return W Reads n is))
+      (returned_protocols cube.proto) (returned_numbers cube fine.regular)))
 
   helper_good : (chain : Text) (rule : SimpleRule W) → IsFine rule.cube → CanStand (bare chain) → AllByRecursion (IsGoodRule Reads names chain) (helper_texts chain rule)
   helper_good chain rule fine stands =
@@ -160,9 +153,7 @@ module _ (W : ℕ) (Reads : Text → ℕ → Type 0) (keeps : KeepsWords) (names
 
   helpers_good : (others : List Text) (rules : List (HelpedRule W)) → AllByRecursion (IsReady others) rules → AllByRecursion (HasGoodRules Reads names) (helper_blocks rules)
   helpers_good others rules ready =
-      all_flat (HasGoodRules Reads names) (λ (h : HelpedRule W). helper_block h.rule h.helper) rules
-      (all_since (IsReady others) (λ (h : HelpedRule W). AllByRecursion (HasGoodRules Reads names) (helper_block h.rule h.helper))
-      (λ h r. block_good h.rule h.helper r.fine r.small) rules ready)
+      flat_since (IsReady others) (HasGoodRules Reads names) (λ h. helper_block h.rule h.helper) (λ h r. block_good h.rule h.helper r.fine r.small) rules ready
 
 -- ---- the text of printed rules
 module _ (Reads : Text → ℕ → Type 0) (text_of : ℕ → Text) (W : ℕ)
@@ -189,8 +180,7 @@ module _ (Reads : Text → ℕ → Type 0) (text_of : ℕ → Text) (W : ℕ)
   all_asked_good : (names : List Text) (chain : Text) → is_among built_in chain ≡ true → (rules : List (HelpedRule W)) → AllByRecursion (IsReady names) rules
       → AllByRecursion (IsGoodRule Reads (chain ∷ names) chain) (flat_map (asked_lines text_of chain) rules)
   all_asked_good names chain asked rules ready =
-      all_flat (IsGoodRule Reads (chain ∷ names) chain) (asked_lines text_of chain) rules
-      (all_since (IsReady names) (λ (h : HelpedRule W). AllByRecursion (IsGoodRule Reads (chain ∷ names) chain) (asked_lines text_of chain h)) (asked_good names chain asked) rules ready)
+      flat_since (IsReady names) (IsGoodRule Reads (chain ∷ names) chain) (asked_lines text_of chain) (asked_good names chain asked) rules ready
 
   abbrev blocks_of : Text → Verdict → List (HelpedRule W) → List (Block W)
   blocks_of chain policy rules = asked_block text_of chain policy rules ∷ helper_blocks rules
@@ -212,7 +202,7 @@ module _ (Reads : Text → ℕ → Type 0) (text_of : ℕ → Text) (W : ℕ)
     blocks_good : AreGood Reads (blocks_of chain policy helped)
     blocks_good = record {
       apart = (other_names, helpers_apart 1 rules few);
-      chains = (record { printed = chain_printed keeps chain (Some policy) (asked_visible chain asked); says = asked_declared chain policy asked }, helper_chains_good keeps helper_names helped ready);
+      chains = (record { printed = chain_printed keeps chain (Some policy) (asked_clean chain asked); says = asked_declared chain policy asked }, helper_chains_good keeps helper_names helped ready);
       rules = (all_asked_good helper_names chain asked helped ready, helpers_good W Reads keeps (chain ∷ helper_names) helper_names helped ready);
     }
 

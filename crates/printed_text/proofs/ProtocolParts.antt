@@ -2,6 +2,7 @@
 use Rattle.std.proofs.Common.{◌≡◌, ◌∙◌, ◌∷◌, ◌≤◌, ◌==◌, ◌&&◌, ◌⊎◌, [], ℕ, List, Bool, true, false, Some, inl, inr, nat_lt, refl, sym, ap, subst, arith, codes, decimal, if◌then◌else◌, Contains, lit<}
 use Rattle.std.specs.List.{AllByRecursion}
 use Rattle.std.proofs.lemmas.Bool.Decides.{nat_tests}
+use Rattle.std.proofs.lemmas.Bool.{eqb-true}
 use Rattle.interval_set.specs.declared.set.Range.{Range}
 use Rattle.interval_set.specs.Numbers.{IsSet, has}
 use Rattle.interval_set.specs.Spelling.{set_not}
@@ -19,7 +20,7 @@ use Rattle.dump_print.specs.Parts.{option_words, protocol_words}
 use Rattle.dump_print.specs.Protocols.{name_of, protocol_text, protocols_of, protocols_without}
 use Rattle.printed_filter.specs.Literals.{no, protocol_literals, yes}
 use Rattle.printed_text.proofs.NumberLemmas.{IsNumber, lacked_number}
-use Rattle.printed_text.proofs.WordLemmas.{CanStand, clean_decimal, clean_is_written, code_is_written, is_clean, same_number, some_decimal}
+use Rattle.printed_text.proofs.WordLemmas.{CanStand, clean_decimal, clean_is_written, code_is_written, is_clean, some_decimal}
 use Rattle.printed_text.proofs.PartLemmas.{IsPart, MaybePart, base_part, no_part}
 
 -- ---- how a protocol is written
@@ -54,7 +55,7 @@ spells_of (word ∷ words) n are small = by_case (word.number == n) refl (spells
   where
     by_case : (b : Bool) → (word.number == n) ≡ b → SpellsProto (name_of words n) n × CanStand (bare (name_of words n))
         → SpellsProto (if b then word.name else name_of words n) n × CanStand (bare (if b then word.name else name_of words n))
-    by_case true e rest = (inl (are.0.0 ∙ ap Some (same_number word.number n e)), code_is_written word.name are.0.1)
+    by_case true e rest = (inl (are.0.0 ∙ ap Some (eqb-true word.number n e)), code_is_written word.name are.0.1)
     by_case false e rest = rest
 
 pub protocol_spells : (n : ℕ) → n ≤ 255 → SpellsProto (protocol_text n) n

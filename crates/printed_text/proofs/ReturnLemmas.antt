@@ -15,7 +15,7 @@ use Rattle.dump_print.specs.Helpers.{returned_patterns, returned_protocols}
 use Rattle.dump_print.specs.Names.{is_plain_names}
 use Rattle.dump_print.specs.Protocols.{is_plain_protocols, lacking, numbers_from, numbers_of, protocols_of}
 use Rattle.printed_text.specs.Names.{ArePrintableNames}
-use Rattle.printed_text.proofs.ListLemmas.{all_flat, all_since}
+use Rattle.printed_text.proofs.ListLemmas.{all_since, flat_since}
 use Rattle.printed_text.proofs.NumberLemmas.{IsNumber, lacked_number}
 use Rattle.printed_text.proofs.ProtocolParts.{single_only}
 
@@ -43,9 +43,9 @@ each_has (r ∷ rs) = (
 )
 
 numbers_has : (rs : List Range) → AllByRecursion (λ n. has rs n ≡ true) (numbers_of rs)
-numbers_has rs = all_flat (λ n. has rs n ≡ true) (λ (r : Range). numbers_from r.lo (r.hi + 1 - r.lo)) rs
-    (all_since (λ (r : Range). (n : ℕ) → r.lo ≤ n → n ≤ r.hi → has rs n ≡ true) (λ (r : Range). AllByRecursion (λ n. has rs n ≡ true) (numbers_from r.lo (r.hi + 1 - r.lo)))
-    (λ r f. all_from (λ n. has rs n ≡ true) r.lo (r.hi + 1 - r.lo) (λ n low high. f n low (omega arith))) rs (each_has rs))
+numbers_has rs =
+    flat_since (λ (r : Range). (n : ℕ) → r.lo ≤ n → n ≤ r.hi → has rs n ≡ true) (λ n. has rs n ≡ true) (λ (r : Range). numbers_from r.lo (r.hi + 1 - r.lo))
+    (λ r f. all_from (λ n. has rs n ≡ true) r.lo (r.hi + 1 - r.lo) (λ n low high. f n low (omega arith))) rs (each_has rs)
 
 lacking_numbers : (rs : List Range) → has rs 0 ≡ true → AllByRecursion IsNumber (lacking rs)
 lacking_numbers rs zeroed = all_since (λ n. has (set_not 8 rs) n ≡ true) IsNumber (λ n lacked. lacked_number rs n zeroed lacked) (lacking rs) (numbers_has (set_not 8 rs))

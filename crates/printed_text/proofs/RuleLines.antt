@@ -1,8 +1,8 @@
 -- Each rule line that is printed is the rule that it is meant to be, and its words can stand in a line.
-use Rattle.std.proofs.Common.{◌≡◌, ◌∙◌, ◌++◌, ◌∷◌, ◌^◌, ◌<◌, ◌≤◌, ◌||◌, ◌&&◌, ◌==◌, [], ℕ, List, Bool, true, false, None, inl, inr, refl, ap, subst, arith, codes, append_assoc, append-nil, Contains}
+use Rattle.std.proofs.Common.{◌≡◌, ◌∙◌, ◌++◌, ◌∷◌, ◌^◌, ◌<◌, ◌≤◌, ◌||◌, ◌&&◌, ◌==◌, [], ℕ, List, Bool, true, false, None, inl, inr, refl, ap, subst, codes, append_assoc, append-nil, Contains}
 use Rattle.std.specs.List.{AllByRecursion}
-use Rattle.std.proofs.lemmas.Bool.Decides.{nat_tests}
 use Rattle.std.proofs.lemmas.List.Elements.{Contains-append_left, Contains-append_right}
+use Rattle.std.proofs.lemmas.Bool.{and_parts}
 use Rattle.interval_set.specs.declared.set.Range.{Range}
 use Rattle.interval_set.specs.Numbers.{IsSet, IsWidth}
 use Rattle.addr_text.specs.Grammar.{IsPlain}
@@ -38,16 +38,17 @@ use Rattle.printed_text.proofs.NumberLemmas.{IsNumber}
 use Rattle.printed_text.proofs.PartLemmas.{IsPart, chosen, join_parts, no_part}
 use Rattle.printed_text.proofs.PortParts.{destination_list_part, own_part, source_list_part, state_part}
 use Rattle.printed_text.proofs.ProtocolParts.{Knowing, is_sayable, protocol_part, protocols_part}
-use Rattle.printed_text.proofs.WordLemmas.{CanStand, both_true, code_is_written}
+use Rattle.printed_text.proofs.WordLemmas.{CanStand, code_is_written}
 use Rattle.printed_text.proofs.ListLemmas.{all_joined}
+use Rattle.printed_text.proofs.WordListLemmas.{some_from}
 
 -- ---- no option stands twice
 abbrev all_bools : (Bool → Bool) → Bool
 all_bools f = f true && f false
 
 bool_at : (f : Bool → Bool) → all_bools f ≡ true → (b : Bool) → f b ≡ true
-bool_at f e true = (both_true (f true) (f false) e).0
-bool_at f e false = (both_true (f true) (f false) e).1
+bool_at f e true = (and_parts (f true) (f false) e).0
+bool_at f e false = (and_parts (f true) (f false) e).1
 
 -- the options of a line, of which each may be missing
 abbrev line_options : Bool → Bool → Bool → Bool → Bool → List Text
@@ -80,12 +81,9 @@ later_false : (a b : Bool) → (a || b) ≡ false → b ≡ false
 later_false true b e = let wrong : true ≡ false = e in cc
 later_false false b e = e
 
-some_number : (n : ℕ) → (n == 0) ≡ false → 1 ≤ n
-some_number n e = grind (arith, nat_tests)
-
 some_state : {W : ℕ} (c : Cube W) → is_none c ≡ false → 1 ≤ c.state
 some_state c e =
-    some_number c.state
+    some_from c.state
     (later_false (c.flags == 0) (c.state == 0)
     (later_false (has_no_range c.dport) _ (later_false (has_no_range c.sport) _ (later_false (has_no_range c.proto) _ (later_false (has_no_range c.dst) _
     (later_false (has_no_range c.src) _ (later_false (has_no_name c.out_name) _ (later_false (has_no_name c.in_name) _ e))))))))

@@ -1,5 +1,5 @@
 -- The table of printed chains, and the dump that its text is.
-use Rattle.std.proofs.Common.{◌≡◌, ◌≢◌, ◌∙◌, ◌++◌, ◌+◌, not, ℕ, List, [], ◌∷◌, true, false, map, length, refl, ap, sym, append-nil, arith, inl, inr, codes}
+use Rattle.std.proofs.Common.{◌≡◌, ◌≢◌, ◌∙◌, ◌++◌, ◌+◌, not, ℕ, List, [], ◌∷◌, true, false, map, length, refl, ap, sym, append-nil, inl, codes}
 use Rattle.std.specs.List.{AllByRecursion}
 use Rattle.std.specs.Str.{bytes_eq}
 use Rattle.std.proofs.lemmas.Bool.{and_from, not_from_false, or_from}
@@ -13,6 +13,7 @@ use Rattle.dump_print.specs.Spelling.{lines_text}
 use Rattle.dump_print.specs.Written.{KeepsWords}
 use Rattle.printed_text.proofs.Blocks.{AreApart, Block, HasGoodRules, IsGoodChain, all_places, all_printed, all_spelled, all_words, block_names, chain_line, chains_declared, chains_from, chains_printed, declared_of, dump_is, rules_declared}
 use Rattle.printed_text.proofs.ListLemmas.{all_joined, bytes_differ, first_one}
+use Rattle.printed_text.proofs.WordLemmas.{code_is_written}
 use Rattle.printed_text.proofs.TextLines.{IsPrinted, is_printed, line_of, lines_of_text, none_passed, numbered_joined}
 
 -- the line that opens the table, and the one that closes it
@@ -23,14 +24,10 @@ abbrev pub closer : List Word
 closer = bare (codes "COMMIT") ∷ []
 
 opener_printed : KeepsWords → IsPrinted opener
-opener_printed keeps = is_printed keeps (bare (codes "*filter")) []
-    (inr (refl, (omega arith, refl), (refl, (refl, (refl, (refl, (refl, (refl, (refl, tt)))))))), tt)
-    ((omega arith, (omega arith, (omega arith, (omega arith, (omega arith, (omega arith, (omega arith, tt))))))), tt) refl
+opener_printed keeps = is_printed keeps (bare (codes "*filter")) [] (code_is_written (codes "*filter") refl, tt) refl
 
 closer_printed : KeepsWords → IsPrinted closer
-closer_printed keeps = is_printed keeps (bare (codes "COMMIT")) []
-    (inr (refl, (omega arith, refl), (refl, (refl, (refl, (refl, (refl, (refl, tt))))))), tt)
-    ((omega arith, (omega arith, (omega arith, (omega arith, (omega arith, (omega arith, tt)))))), tt) refl
+closer_printed keeps = is_printed keeps (bare (codes "COMMIT")) [] (code_is_written (codes "COMMIT") refl, tt) refl
 
 -- a list of one table
 one_before : (t v : DumpTable) (before after : List DumpTable) → t ∷ [] ≡ before ++ v ∷ after → AllByRecursion (λ u. IsFilter u → ⊥) (before ++ after)

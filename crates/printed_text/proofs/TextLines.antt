@@ -1,12 +1,11 @@
 -- Lines of words as a text.
-use Rattle.std.proofs.Common.{◌≡◌, ◌∙◌, ◌++◌, ◌+◌, ◌≤◌, ◌≢◌, ◌||◌, not, ℕ, List, [], ◌∷◌, Bool, true, false, map, length, refl, ap, sym, inl, inr, append_assoc, arith, add-zero}
+use Rattle.std.proofs.Common.{◌≡◌, ◌∙◌, ◌++◌, ◌+◌, ◌≢◌, ◌||◌, not, ℕ, List, [], ◌∷◌, Bool, true, false, map, length, refl, ap, sym, inl, append_assoc, arith, add-zero}
 use Rattle.std.specs.Prelude.{filter, ◌==◌, if◌then◌else◌}
 use Rattle.std.specs.List.{AllByRecursion}
-use Rattle.std.proofs.lemmas.Bool.{ne_eqb}
-use Rattle.dump_token.specs.Words.{is_blank}
-use Rattle.dump_grammar.specs.Lines.{AreLines, HasWords, IsLine, Numbered, Text, Word, bare, is_passed_over, numbered_from}
+use Rattle.dump_grammar.specs.Lines.{AreLines, HasWords, IsLine, Numbered, Text, Word, is_passed_over, numbered_from}
 use Rattle.dump_print.specs.Spelling.{escaped, line_text, lines_text, spaced, spelled}
 use Rattle.dump_print.specs.Written.{IsWritten, KeepsWords}
+use Rattle.printed_text.proofs.WordLemmas.{CanStand}
 use Rattle.printed_text.proofs.ListLemmas.{all_joined, all_since, filter_in}
 
 -- a line without its line feed
@@ -46,10 +45,7 @@ numbered_joined n (x ∷ a) b =
     ap (λ (l : List Numbered). record { number = n; bytes = x } ∷ l)
     (numbered_joined (n + 1) a b ∙ ap (λ m. numbered_from (n + 1) a ++ numbered_from m b) same)
 
--- ---- words without a line feed
-abbrev pub HoldsNoFeed : Word → Type 0
-HoldsNoFeed word = IsLine word.text
-
+-- ---- a printed line is one line
 escape_one : (c : Bool) (b : ℕ) (rest : Text) → b ≢ 10 → IsLine rest → IsLine (if c then 92 ∷ b ∷ rest else b ∷ rest)
 escape_one true b rest n h = (omega arith, (n, h))
 escape_one false b rest n h = (n, h)
@@ -62,29 +58,16 @@ quoted_line : (quoted : Bool) (text : Text) → IsLine text → IsLine (if quote
 quoted_line true text h = (omega arith, all_joined _ (escaped text) (34 ∷ []) (escaped_line text h) (omega arith, tt))
 quoted_line false text h = h
 
-spaced_line : (words : List Word) → AllByRecursion HoldsNoFeed words → IsLine (spaced words)
-spaced_line [] h = tt
-spaced_line (word ∷ words) h = (omega arith, all_joined _ (spelled word) (spaced words) (quoted_line word.quoted word.text h.0) (spaced_line words h.1))
+spaced_line : (words : List Word) → AllByRecursion CanStand words → IsLine (spaced words)
+spaced_line [] stand = tt
+spaced_line (word ∷ words) stand =
+    (omega arith, all_joined _ (spelled word) (spaced words) (quoted_line word.quoted word.text stand.0.1) (spaced_line words stand.1))
 
-pub is_printed : KeepsWords → (word : Word) (words : List Word) → AllByRecursion IsWritten (word ∷ words) → AllByRecursion HoldsNoFeed (word ∷ words)
+-- words that can stand in a line, the first of which makes it no line that is passed over
+pub is_printed : KeepsWords → (word : Word) (words : List Word) → AllByRecursion CanStand (word ∷ words)
     → is_passed_over (spelled word ++ spaced words) ≡ false → IsPrinted (word ∷ words)
-is_printed keeps word words written unfed shown = record {
-  line = all_joined _ (spelled word) (spaced words) (quoted_line word.quoted word.text unfed.0) (spaced_line words unfed.1);
+is_printed keeps word words stand shown = record {
+  line = all_joined _ (spelled word) (spaced words) (quoted_line word.quoted word.text stand.0.1) (spaced_line words stand.1);
   shown = shown;
-  kept = keeps word words written.0 written.1;
+  kept = keeps word words stand.0.0 (all_since CanStand IsWritten (λ w s. s.0) words stand.1);
 }
-
--- ---- texts of bytes that are neither blank nor a line feed
-abbrev pub IsVisible : Text → Type 0
-IsVisible text = AllByRecursion (λ b. 33 ≤ b) text
-
-pub visible_line : (text : Text) → IsVisible text → IsLine text
-visible_line text h = all_since (λ b. 33 ≤ b) (λ b. b ≢ 10) (λ b low. omega arith) text h
-
-pub no_blank : (b : ℕ) → 33 ≤ b → is_blank b ≡ false
-no_blank b low = rw (ne_eqb b 32 (omega arith), ne_eqb b 9 (omega arith), ne_eqb b 13 (omega arith)) refl
-
--- a bare word that begins with no quote
-pub visible_word : (b : ℕ) (text : Text) → b ≢ 34 → IsVisible (b ∷ text) → IsWritten (bare (b ∷ text))
-visible_word b text ne h =
-    inr (refl, (ne, no_blank b h.0), all_since (λ b. 33 ≤ b) (λ b. is_blank b ≡ false) no_blank (b ∷ text) h)

@@ -1,11 +1,12 @@
 -- Words that stand in a line as they are meant.
-use Rattle.std.proofs.Common.{◌≡◌, ◌==◌, ◌≢◌, ◌++◌, ◌∷◌, ◌^◌, ◌<◌, ◌&&◌, [], ℕ, Bool, true, false, not, inl, inr, nat_lt, length, refl, arith, codes, decimal, length-append}
+use Rattle.std.proofs.Common.{◌≡◌, ◌≢◌, ◌++◌, ◌∷◌, ◌^◌, ◌<◌, ◌&&◌, [], ℕ, Bool, true, false, not, inl, inr, nat_lt, length, refl, arith, codes, decimal, length-append}
 use Rattle.std.specs.List.{AllByRecursion, list_all}
 use Rattle.std.specs.Char.{digit_value}
 use Rattle.std.specs.Str.Parse.{AllDigits}
 use Rattle.std.proofs.lemmas.Bool.Decides.{nat_tests}
 use Rattle.std.proofs.lemmas.Fmt.{decimal_is_IsNumeral}
 use Rattle.std.proofs.lemmas.List.Elements.{recursion_from_All}
+use Rattle.std.proofs.lemmas.Bool.{and_parts, ltb-true}
 use Rattle.addr_text.specs.Grammar.{IsAddressByte, IsPlain}
 use Rattle.dump_token.specs.Words.{BeginsPlain, HoldsNoBlank, is_blank}
 use Rattle.name_set.specs.declared.pattern.Pattern.{Pattern}
@@ -19,7 +20,7 @@ use Rattle.printed_text.proofs.ListLemmas.{all_joined}
 abbrev pub CanStand : Word → Type 0
 CanStand word = IsWritten word × IsLine word.text
 
--- each byte is above the quote, which is above the blanks
+-- each byte is ltb-true the quote, which is ltb-true the blanks
 abbrev pub IsClean : Text → Type 0
 IsClean text = AllByRecursion (λ b. 34 < b) text
 
@@ -27,19 +28,9 @@ IsClean text = AllByRecursion (λ b. 34 < b) text
 abbrev pub is_clean : Text → Bool
 is_clean text = nat_lt 0 (length text) && list_all (λ b. nat_lt 34 b) text
 
-pub both_true : (a b : Bool) → (a && b) ≡ true → (a ≡ true) × (b ≡ true)
-both_true true b e = (refl, e)
-both_true false b e = let wrong : false ≡ true = e in cc
-
-pub above : (a b : ℕ) → nat_lt a b ≡ true → a < b
-above a b e = grind (arith, nat_tests)
-
-pub same_number : (a b : ℕ) → (a == b) ≡ true → a ≡ b
-same_number a b e = grind (arith, nat_tests)
-
 pub clean_from : (text : Text) → list_all (λ b. nat_lt 34 b) text ≡ true → IsClean text
 clean_from [] e = tt
-clean_from (b ∷ text) e = let both = both_true (nat_lt 34 b) (list_all (λ b. nat_lt 34 b) text) e in (above 34 b both.0, clean_from text both.1)
+clean_from (b ∷ text) e = let both = and_parts (nat_lt 34 b) (list_all (λ b. nat_lt 34 b) text) e in (ltb-true 34 b both.0, clean_from text both.1)
 
 no_blank : (b : ℕ) → 34 < b → is_blank b ≡ false
 no_blank b l = grind (arith, nat_tests)
@@ -64,11 +55,8 @@ clean_is_written text some p = (inr (refl, clean_begins text some p, clean_blank
 
 pub code_is_written : (text : Text) → is_clean text ≡ true → CanStand (bare text)
 code_is_written text e =
-    let both = both_true (nat_lt 0 (length text)) (list_all (λ b. nat_lt 34 b) text) e in
-    clean_is_written text (above 0 (length text) both.0) (clean_from text both.1)
-
-pub clean_joined : (a b : Text) → IsClean a → IsClean b → IsClean (a ++ b)
-clean_joined a b p q = all_joined (λ b. 34 < b) a b p q
+    let both = and_parts (nat_lt 0 (length text)) (list_all (λ b. nat_lt 34 b) text) e in
+    clean_is_written text (ltb-true 0 (length text) both.0) (clean_from text both.1)
 
 pub mark_is_written : CanStand (bare (codes "!"))
 mark_is_written = (inr (refl, (λ (e : 33 ≡ 34). omega arith, refl), (refl, tt)), (omega arith, tt))
@@ -112,7 +100,7 @@ clean_plain b e = grind (arith, nat_tests)
 
 clean_all : (text : Text) → list_all is_plain_byte text ≡ true → IsClean text
 clean_all [] e = tt
-clean_all (b ∷ text) e = let both = both_true (is_plain_byte b) (list_all is_plain_byte text) e in (clean_plain b both.0, clean_all text both.1)
+clean_all (b ∷ text) e = let both = and_parts (is_plain_byte b) (list_all is_plain_byte text) e in (clean_plain b both.0, clean_all text both.1)
 
 some_begun : (text : Text) → begins_plainly text ≡ true → 0 < length text
 some_begun [] e = let wrong : false ≡ true = e in cc
@@ -125,7 +113,7 @@ pattern_line (Pattern.Prefix front) is = all_joined (λ b. b ≢ 10) front (code
 name_written : (b : Bool) (text : Text) → is_bare text ≡ b → IsLine text → CanStand (record { text = text; quoted = not b })
 name_written false text e line = (inl refl, line)
 name_written true text e line =
-    let both = both_true (begins_plainly text) (list_all is_plain_byte text) e in
+    let both = and_parts (begins_plainly text) (list_all is_plain_byte text) e in
     clean_is_written text (some_begun text both.0) (clean_all text both.1)
 
 pub name_is_written : (pattern : Pattern) → IsPrintable pattern → CanStand (name_word pattern)
