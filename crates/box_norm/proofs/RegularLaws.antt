@@ -59,11 +59,11 @@ single_set n h = (inl refl, (omega arith, omega arith, h, tt))
 none_set : IsSet 8 []
 none_set = (inl refl, tt)
 
-and_one : (a : List Range) (n : ℕ) → n ≤ 255 → has a n ≡ true → single n ≡ set_and 8 a (single n)
+pub and_one : (a : List Range) (n : ℕ) → n ≤ 255 → has a n ≡ true → single n ≡ set_and 8 a (single n)
 and_one a n h t = spelled_and 8 (single n) a (single n) a (single n) (single_set n h)
     (λ k. let e = single_is n k in let f : k ≡ n → has a k ≡ true = λ q. ap (has a) q ∙ t in grind (arith, nat_tests, e, f)) refl refl
 
-and_none : (a : List Range) (n : ℕ) → has a n ≡ false → [] ≡ set_and 8 a (single n)
+pub and_none : (a : List Range) (n : ℕ) → has a n ≡ false → [] ≡ set_and 8 a (single n)
 and_none a n t = spelled_and 8 [] a (single n) a (single n) none_set
     (λ k. let e = single_is n k in let f : k ≡ n → has a k ≡ false = λ q. ap (has a) q ∙ t in grind (arith, nat_tests, e, f)) refl refl
 
@@ -75,8 +75,13 @@ and_by false a n h e s = absurd (let f : has_no_range [] ≡ false = ap has_no_r
 pub and_single_is : (a : List Range) (n : ℕ) → n ≤ 255 → has_no_range (set_and 8 a (single n)) ≡ false → (set_and 8 a (single n) ≡ single n) × (has a n ≡ true)
 and_single_is a n h s = and_by (has a n) a n h refl s
 
-minus_same : (n : ℕ) → [] ≡ set_minus 8 (single n) (single n)
+pub minus_same : (n : ℕ) → [] ≡ set_minus 8 (single n) (single n)
 minus_same n = spelled_minus 8 [] (single n) (single n) (single n) (single n) none_set (λ k. grind (arith, nat_tests)) refl refl
+
+-- a set without a number that it lacks
+pub minus_none : (a : List Range) (n : ℕ) → IsSet 8 a → has a n ≡ false → a ≡ set_minus 8 a (single n)
+minus_none a n s t = spelled_minus 8 a a (single n) a (single n) s
+    (λ k. let e = single_is n k in let f : k ≡ n → has a k ≡ false = λ q. ap (has a) q ∙ t in grind (arith, nat_tests, e, f)) refl refl
 
 minus_other : (m n : ℕ) → m ≤ 255 → m ≢ n → single m ≡ set_minus 8 (single m) (single n)
 minus_other m n h k = spelled_minus 8 (single m) (single m) (single n) (single m) (single n) (single_set m h)

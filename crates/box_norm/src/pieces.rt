@@ -1,9 +1,10 @@
 ghost use Rattle.std.specs.Prelude.{◌≡◌, ◌++◌, IfOk, OnOk};
 ghost use Rattle.box_norm.specs.Cubes.{is_none, has_no_range, kept};
-ghost use Rattle.box_norm.specs.Pieces.{single, flags_where, cut_pieces, omit_pieces};
+ghost use Rattle.box_norm.specs.Pieces.{flags_where, cut_pieces, omit_pieces};
 ghost use Rattle.box_norm.specs.Regular.{IsSound};
 
 use crate::cube::Cube;
+use crate::numbers::{and_number, minus_number};
 use interval_set::Set;
 use name_set::NameSet;
 use primitives::Prim_;
@@ -39,13 +40,6 @@ fn keep<const W: u32>(out: &mut Vec<Cube<W>>, cube: Cube<W>) -> Result<(), Alloc
     }
     out.push(cube)?;
     Ok(())
-}
-
-/// The set of one number.
-fn only(alloc: Global, number: u8) -> Result<Set<8>, AllocError>
-    ensures { IfOk result (λ s. s ≡ single number) }
-{
-    Set::range(alloc, number as u128, number as u128)
 }
 
 /// The flag numbers that match, as bits.
@@ -224,20 +218,20 @@ pub fn push_cut<const W: u32>(
             None => Ok(()),
         },
         Prim_::Proto(proto) => {
-            let proto = cube.proto.and(alloc, &only(alloc, proto.number)?)?;
+            let proto = and_number(alloc, &cube.proto, proto.number)?;
             put_proto(alloc, out, cube, proto)
         }
         Prim_::SrcPorts(ports) => {
-            let proto = cube.proto.and(alloc, &only(alloc, ports.proto)?)?;
+            let proto = and_number(alloc, &cube.proto, ports.proto)?;
             put_sport(alloc, out, cube, proto, cube.sport.and(alloc, &ports.set)?)
         }
         Prim_::DstPorts(ports) => {
-            let proto = cube.proto.and(alloc, &only(alloc, ports.proto)?)?;
+            let proto = and_number(alloc, &cube.proto, ports.proto)?;
             put_dport(alloc, out, cube, proto, cube.dport.and(alloc, &ports.set)?)
         }
         Prim_::Flags { mask, comp } => {
-            let proto = cube.proto.and(alloc, &only(alloc, 6)?)?;
-            put_flags(alloc, out, cube, proto, cube.flags & matching(*mask, *comp))
+            let tcp = and_number(alloc, &cube.proto, 6)?;
+            put_flags(alloc, out, cube, tcp, cube.flags & matching(*mask, *comp))
         }
         Prim_::State(states) => put_state(alloc, out, cube, cube.state & *states),
         Prim_::Always => keep(out, cube.copy(alloc)?),
@@ -266,13 +260,13 @@ pub fn push_omit<const W: u32>(
             None => Ok(()),
         },
         Prim_::Proto(proto) => {
-            let proto = cube.proto.minus(alloc, &only(alloc, proto.number)?)?;
+            let proto = minus_number(alloc, &cube.proto, proto.number)?;
             put_proto(alloc, out, cube, proto)
         }
         Prim_::SrcPorts(ports) => {
-            let number = only(alloc, ports.proto)?;
-            put_proto(alloc, out, cube, cube.proto.minus(alloc, &number)?)?;
-            let proto = cube.proto.and(alloc, &number)?;
+            let others = minus_number(alloc, &cube.proto, ports.proto)?;
+            put_proto(alloc, out, cube, others)?;
+            let proto = and_number(alloc, &cube.proto, ports.proto)?;
             put_sport(
                 alloc,
                 out,
@@ -282,9 +276,9 @@ pub fn push_omit<const W: u32>(
             )
         }
         Prim_::DstPorts(ports) => {
-            let number = only(alloc, ports.proto)?;
-            put_proto(alloc, out, cube, cube.proto.minus(alloc, &number)?)?;
-            let proto = cube.proto.and(alloc, &number)?;
+            let others = minus_number(alloc, &cube.proto, ports.proto)?;
+            put_proto(alloc, out, cube, others)?;
+            let proto = and_number(alloc, &cube.proto, ports.proto)?;
             put_dport(
                 alloc,
                 out,
@@ -294,9 +288,9 @@ pub fn push_omit<const W: u32>(
             )
         }
         Prim_::Flags { mask, comp } => {
-            let number = only(alloc, 6)?;
-            put_proto(alloc, out, cube, cube.proto.minus(alloc, &number)?)?;
-            let proto = cube.proto.and(alloc, &number)?;
+            let others = minus_number(alloc, &cube.proto, 6)?;
+            put_proto(alloc, out, cube, others)?;
+            let proto = and_number(alloc, &cube.proto, 6)?;
             let matched = cube.flags & matching(*mask, *comp);
             put_flags(alloc, out, cube, proto, cube.flags ^ matched)
         }
