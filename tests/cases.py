@@ -102,6 +102,22 @@ CASES = {
                          ("FIN,SYN NONE", "FIN,SYN,RST,ACK SYN,ACK", "FIN,SYN,RST SYN,RST", "FIN FIN")), policy="ACCEPT"))),
     "a name with a blank stands in quotes": (
         "upper", forward('-i "a b" -j ACCEPT', "-i + -m socket -j ACCEPT"), prints(forward('-i "a b" -j ACCEPT', "-j ACCEPT"))),
+    "an exclusion from a pattern needs a helper chain": (
+        "upper", calling("-o eth0 -j RETURN", "-o eth+ -j DROP"),
+        prints(wrapped(":FORWARD DROP [0:0]", ":C1 - [0:0]", "-A FORWARD -o eth+ -j C1", "-A C1 -o eth0 -j RETURN", "-A C1 -j DROP"))),
+    "each rule has a helper chain of its own": (
+        "lower", calling("-i eth0 -j RETURN", "-i lo -j RETURN", "-p tcp -j ACCEPT", "-j DROP"),
+        prints(wrapped(":FORWARD DROP [0:0]", ":C1 - [0:0]", ":C2 - [0:0]", "-A FORWARD -p tcp -j C1", "-A FORWARD -j C2",
+                       "-A C1 -i eth0 -j RETURN", "-A C1 -i lo -j RETURN", "-A C1 -j ACCEPT",
+                       "-A C2 -i eth0 -j RETURN", "-A C2 -i lo -j RETURN", "-A C2 -j DROP"))),
+    "one excluded name stands in the line": ("upper", calling("-o eth0 -j RETURN", "-j ACCEPT"), prints(forward("! -o eth0 -j ACCEPT"))),
+    "a name with a quote and a backslash": ("upper", forward('-i "a\\"b\\\\" -j ACCEPT'), prints(forward('-i "a\\"b\\\\" -j ACCEPT'))),
+    "a name that begins with a dash": ("upper", forward("-i -x -j ACCEPT"), prints(forward('-i "-x" -j ACCEPT'))),
+    "ports of sctp": ("upper", forward("-p sctp -m multiport --sports 80 -j ACCEPT"), prints(forward("-p sctp -m multiport --sports 80 -j ACCEPT"))),
+    "protocols have their names": ("upper", forward("-p 6 -j ACCEPT", "-p 99 -j DROP", "! -p 58 -j ACCEPT"),
+                                   prints(forward("-p tcp -j ACCEPT", "-p 99 -j DROP", "! -p ipv6-icmp -j ACCEPT"))),
+    "states in their order": ("upper", forward("-m state --state ESTABLISHED,RELATED -j ACCEPT"),
+                              prints(forward("-m conntrack --ctstate RELATED,ESTABLISHED -j ACCEPT"))),
     "all protocols but many": ("upper", returning(255), prints(wrapped(
         ":FORWARD DROP [0:0]", ":C1 - [0:0]", "-A FORWARD -j C1", *RETURN_LINES, "-A C1 -j ACCEPT"))),
     "an unsupported target in reach": (
@@ -149,6 +165,13 @@ def many(count, line, *more):
     return wrapped(":FORWARD DROP [0:0]", *[line] * count, *more)
 
 
+def chained(count):
+    """Chains that call one another in a row, FORWARD the first of `count`."""
+    names = [f"D{i}" for i in range(1, count)]
+    calls = [f"-A {name} -j {after}" for name, after in zip(["FORWARD", *names], names)]
+    return wrapped(":FORWARD DROP [0:0]", *(f":{name} - [0:0]" for name in names), *calls)
+
+
 def sure_returns(count):
     return wrapped(":FORWARD DROP [0:0]", ":C - [0:0]", "-A FORWARD -j C", *["-A C -p esp -j RETURN"] * count, *["-A C -j ACCEPT"] * 2048)
 
@@ -157,12 +180,19 @@ def visited(*more):
     return wrapped(":FORWARD DROP [0:0]", ":C - [0:0]", *["-A FORWARD -j C"] * 4096, *["-A C -s 1.1.1.1/32 -j DROP"] * 4095, *more)
 
 
-def boxes(returns):
-    """Returns that double the cubes; what is left is accepted."""
-    rules = [f"-s 10.0.0.{i}/32 -d 192.168.0.0/16 -j RETURN" for i in range(1, returns + 1)]
-    rules += [f"-p tcp -m tcp --sport {i} --dport 1 -j RETURN" for i in range(1, 128)]
+def address_returns(count):
+    return [f"-s 10.0.0.{i}/32 -d 192.168.0.0/16 -j RETURN" for i in range(1, count + 1)]
+
+
+def boxes(returns, *before):
+    """Returns that multiply the cubes; what is left is accepted."""
+    rules = address_returns(returns) + [f"-p tcp -m tcp --sport {i} --dport 1 -j RETURN" for i in range(1, 128)]
     lines = ["-A FORWARD -p tcp -j C", *(f"-A C {rule}" for rule in [*rules, "-j ACCEPT"])]
-    return wrapped(":FORWARD DROP [0:0]", ":C - [0:0]", *lines)
+    return wrapped(":FORWARD DROP [0:0]", ":C - [0:0]", *before, *lines)
+
+
+# the pieces of the last return pass the limit, though half of them are left out again
+UNUSED = calling(*address_returns(127), *(f"-i e{i} -o x -j RETURN" for i in range(1, 65)), "-m tcp ! --dport 22 -j RETURN", "-j ACCEPT")
 
 
 LIMITS = {
@@ -176,6 +206,11 @@ LIMITS = {
     "more literals": ("upper", sure_returns(2049), limit("literals")),
     "16,384 cubes": ("upper", boxes(127), 32_768),
     "16,512 cubes": ("upper", boxes(128), limit("boxes")),
+    "cubes that are left out again count": ("upper", UNUSED, limit("boxes")),
+    "cubes before rules": ("upper", boxes(128, *["-A FORWARD -j ACCEPT"] * 131_073), limit("boxes")),
+    "nodes of the lower side": ("lower", many(262_145, "-A FORWARD -j DROP"), limit("nodes")),
+    "256 chains in a row": ("lower", chained(256), 0),
+    "257 chains in a row": ("upper", chained(257), limit("depth")),
     "calls that double 17 times": ("upper", doubling(17), 65_536),
     "16,777,216 visits": ("explain src=2.2.2.2", visited(), prints("accept never\ndrop under 0\n")),
     "16,777,217 visits": ("explain src=2.2.2.2", visited("-A FORWARD -j ACCEPT"), limit("visits")),

@@ -18,6 +18,7 @@ PORT_WORDS = ["22", "1024:65535", "0:21", "53", "80", "65535"]
 LISTS = ["80,443", "22,25,80:90", "0:9,11:19,21:29", "53", "1,3,5,7,9,11,13,15,17,19,21,23,25,27,29"]
 PORTS = [0, 1, 10, 20, 21, 22, 23, 25, 53, 80, 85, 90, 443, 1024, 65535]
 NUMBERS = [0, 1, 6, 17, 47, 132, 255]
+EXCLUDED = ["-i eth0", "-i eth1", "-i lo", "-o eth0", "-o ppp0", "-o br-lan", "-p tcp", "-p udp", "-p icmp", "-p 47"]
 STATE_LISTS = ["NEW", "RELATED,ESTABLISHED", "INVALID", "NEW,UNTRACKED", "INVALID,NEW,RELATED,ESTABLISHED,UNTRACKED"]
 FLAG_TESTS = ["--syn", "--tcp-flags SYN,ACK SYN", "--tcp-flags ALL NONE", "--tcp-flags FIN,RST FIN", "--tcp-flags NONE NONE"]
 
@@ -69,16 +70,26 @@ def matches(rng, family):
     return found
 
 
+def exclusions(rng, name):
+    """A chain that returns for some names and protocols and gives the others a verdict: helper chains come of it."""
+    wanted = rng.choice(["", "", "-i eth+ ", "-o br-+ "])
+    return [*(f"-A {name} {match} -j RETURN" for match in rng.sample(EXCLUDED, rng.randrange(2, 6))),
+            f"-A {name} {wanted}-j {rng.choice(['ACCEPT', 'ACCEPT', 'DROP'])}"]
+
+
 def text(rng, family):
+    """A dump. The rules of FORWARD and of the chains A to D stand in any order, those of E and F in theirs."""
     users = ["A", "B", "C", "D"][:rng.randrange(5)]
+    returning = ["E", "F"][:rng.randrange(3)]
     lines = ["*filter", f":FORWARD {rng.choice(['ACCEPT', 'DROP'])} [0:0]", ":INPUT ACCEPT [1:2]"]
-    lines += [f":{name} - [0:0]" for name in users]
-    rules = []
+    lines += [f":{name} - [0:0]" for name in [*users, *returning]]
+    rules = [" ".join(["-A FORWARD", *matches(rng, family)[:1], "-j", name]) for name in returning]
     for at, name in enumerate(["FORWARD", *users]):
         for _ in range(rng.randrange(5 if at else 6)):
             target = rng.choice(["ACCEPT", "DROP", "RETURN", "REJECT", "LOG"] + 3 * users[at:])
             rules.append(" ".join(["-A", name, *matches(rng, family), "-j", target]))
     rng.shuffle(rules)
+    rules += [line for name in returning for line in exclusions(rng, name)]
     return "\n".join([*lines, *rules, "COMMIT", ""])
 
 
@@ -90,7 +101,8 @@ def packet(rng, family):
         return min(top, max(0, rng.choice(values) + rng.choice([-1, 0, 0, 0, 1])))
 
     return {"in": rng.choice(NAMES), "out": rng.choice(NAMES), "src": value(), "dst": value(), "proto": rng.choice(NUMBERS),
-            "sport": rng.choice(PORTS), "dport": rng.choice(PORTS), "flags": rng.randrange(64), "state": rng.randrange(5)}
+            "sport": rng.choice(PORTS), "dport": rng.choice(PORTS), "flags": rng.choice([0, 2, 18, rng.randrange(64)]),
+            "state": rng.randrange(5)}
 
 
 def words_of(packet, family):
@@ -123,6 +135,9 @@ def disagreements(program, rng, family):
             yield f"{mode}: {status} {err}\n{given}"
             continue
         printed = walker.dump(out)
+        count = asked(program, ["check"], family, out)[1]
+        if not count.endswith(" unknown 0\n"):
+            yield f"{mode}: its answer is checked as {count}\n{out}"
         if list(printed)[0] != "FORWARD" or printed["FORWARD"][0] != chains["FORWARD"][0]:
             yield f"{mode}: another chain or policy\n{given}\n{out}"
         for p in packets:

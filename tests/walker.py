@@ -91,6 +91,16 @@ def module_test(module, option, arguments, number):
     return None
 
 
+def has_option(words):
+    """Whether an option of a module follows before the next module is named."""
+    for text, _ in words:
+        if text == "-m":
+            return False
+        if text.startswith("--"):
+            return True
+    return False
+
+
 def literals_of(words):
     """The literals of a rule's words up to its target: pairs of `negated` and a test, where the test of an unknown one is None."""
     number = None
@@ -106,7 +116,7 @@ def literals_of(words):
         if option == "-m":
             module = words[at][0]
             at += 1
-            if module.encode() not in reader.MODULES and (at == len(words) or not words[at][0].startswith(("--", "!"))):
+            if module.encode() not in reader.MODULES and not has_option(words[at:]):
                 found.append((False, None))
             continue
         if option.encode() in reader.BASE:
