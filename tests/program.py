@@ -257,16 +257,18 @@ def worked():
 
 
 def samples():
-    for name, words in [("prefixes", ["upper"]), ("prefixes6", ["upper", "--family", "6"])]:
-        with open(f"{TOP}/samples/{name}.rules", "rb") as given, open(f"{TOP}/samples/{name}.upper", "rb") as kept:
-            check(f"sample {name}", told(run(words, given.read())), (0, kept.read(), b""))
     for path in sorted(glob.glob(f"{TOP}/samples/*.rules")):
         with open(path, "rb") as given:
             text = given.read()
+        family = ["--family", "6" if path.endswith("6.rules") else "4"]
         table = text[text.index(b"*filter\n"):].split(b"\nCOMMIT")[0].splitlines()
         chains, rules = (sum(line.startswith(front) for line in table) for front in (b":", b"-A "))
-        words = ["check", "--family", "6" if path.endswith("6.rules") else "4"]
-        check(f"counts of {path}", run(words, text).stdout.split()[:5], f"ok chains {chains} rules {rules}".encode().split())
+        check(f"counts of {path}", run(["check", *family], text).stdout.split()[:5], f"ok chains {chains} rules {rules}".encode().split())
+        for mode in ("upper", "lower"):
+            with open(f"{path[:-len('rules')]}{mode}", "rb") as kept:
+                wanted = kept.read()
+            check(f"{mode} of {path}", told(run([mode, *family], text)), (0, wanted, b""))
+            check(f"{mode} of its own answer for {path}", told(run([mode, *family], wanted)), (0, wanted, b""))
 
 
 def spelled(family, rng):
