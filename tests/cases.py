@@ -32,9 +32,9 @@ TWO_NAMES = wrapped(":FORWARD DROP [0:0]", ":C1 - [0:0]", "-A FORWARD -j C1", "-
 
 def doubling(count):
     """Chains of which each calls the next one twice."""
-    chains = [f":D{i} - [0:0]" for i in range(1, count + 1)]
-    calls = [f"-A D{i} -j D{i + 1}" for i in range(1, count) for _ in range(2)]
-    return wrapped(":FORWARD DROP [0:0]", *chains, "-A FORWARD -j D1", *calls, f"-A D{count} -j ACCEPT")
+    chains = [f":N{i} - [0:0]" for i in range(1, count + 1)]
+    calls = [f"-A N{i} -j N{i + 1}" for i in range(1, count) for _ in range(2)]
+    return wrapped(":FORWARD DROP [0:0]", *chains, "-A FORWARD -j N1", *calls, f"-A N{count} -j ACCEPT")
 
 
 def returning(count):
@@ -167,7 +167,7 @@ def many(count, line, *more):
 
 def chained(count):
     """Chains that call one another in a row, FORWARD the first of `count`."""
-    names = [f"D{i}" for i in range(1, count)]
+    names = [f"N{i}" for i in range(1, count)]
     calls = [f"-A {name} -j {after}" for name, after in zip(["FORWARD", *names], names)]
     return wrapped(":FORWARD DROP [0:0]", *(f":{name} - [0:0]" for name in names), *calls)
 

@@ -2,7 +2,7 @@
 """Compares `upper`, `lower` and `explain` of the built program with walks over the dump itself, on random dumps: the printed
 filter has to answer each packet as some truth, or every truth, of the unknown matches does.
 
-    python3 tests/filters.py PROGRAM COUNT SEED
+    python3 tests/filters.py PROGRAM COUNT START
 
 Prints the first cases that disagree and a last line 'N passed, M failed'; the exit status is 1 where one failed."""
 import random
@@ -150,8 +150,8 @@ def disagreements(program, rng, family):
             yield f"explain of {p}: {status} {err}{out}, wanted {lines}\n{given}"
 
 
-def main(program, count, seed):
-    rng = random.Random(seed)
+def main(program, count, start):
+    rng = random.Random(start)
     failed = 0
     for _ in range(count):
         wrong = list(disagreements(program, rng, rng.choice([4, 4, 6])))

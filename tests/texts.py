@@ -1,7 +1,7 @@
 #!/usr/bin/env python3
 """Compares `check` of the built program with the plain reader in reader.py, on random texts, most of them nearly right.
 
-    python3 tests/texts.py PROGRAM COUNT SEED
+    python3 tests/texts.py PROGRAM COUNT START
 
 Prints the first texts on which they disagree, how often each status came, and a last line 'N passed, M failed'; the exit
 status is 1 where one failed."""
@@ -78,8 +78,8 @@ def text(rng, family):
     return whole.encode()
 
 
-def main(program, count, seed):
-    rng = random.Random(seed)
+def main(program, count, start):
+    rng = random.Random(start)
     failed, statuses = 0, {}
     for _ in range(count):
         family = rng.choice([4, 4, 6])

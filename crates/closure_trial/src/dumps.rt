@@ -32,17 +32,17 @@ impl Primitive for Is {
     }
 }
 
-/// Numbers that follow from a seed.
+/// Numbers that follow from a start.
 #[derive(Debug, Drop)]
 pub(crate) struct Random {
     state: u64,
 }
 
 impl Random {
-    /// The same seed gives the same numbers.
-    pub(crate) fn new(seed: u32) -> Random {
+    /// The same start gives the same numbers.
+    pub(crate) fn new(start: u32) -> Random {
         Random {
-            state: u64::from(seed),
+            state: u64::from(start),
         }
     }
 

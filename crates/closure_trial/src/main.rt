@@ -1,6 +1,6 @@
 //! Tries the rewriting on random small dumps: the closed list of each side has to accept exactly the packets that may, or must, be accepted, as walks for each meaning tell.
 //!
-//! The words are the number of dumps and a seed. The same seed gives the same dumps.
+//! The words are the number of dumps and a start. The same start gives the same dumps.
 #![tactic(auto)]
 
 mod asking;
@@ -30,10 +30,10 @@ fn main(rt: HostRuntime) -> ExitCode {
     let Ok(words) = words(&rt) else {
         return ExitCode::from(12);
     };
-    let (Some(count), Some(seed)) = (number(words.get(1)), number(words.get(2))) else {
+    let (Some(count), Some(start)) = (number(words.get(1)), number(words.get(2))) else {
         return ExitCode::from(1);
     };
-    let Ok(differences) = differences(rt.alloc(), count, seed) else {
+    let Ok(differences) = differences(rt.alloc(), count, start) else {
         return ExitCode::from(12);
     };
     match println!(rt; "{count} dumps, {differences} differences") {

@@ -52,8 +52,8 @@ pub(crate) fn agrees(alloc: Global, dump: &Dump<Is>) -> Result<bool, FlatFault> 
 }
 
 /// Of so many random dumps, those on which the lists and the walks differ.
-pub(crate) fn differences(alloc: Global, count: u32, seed: u32) -> Result<u32, FlatFault> {
-    let mut random = Random::new(seed);
+pub(crate) fn differences(alloc: Global, count: u32, start: u32) -> Result<u32, FlatFault> {
+    let mut random = Random::new(start);
     let mut differences = 0u32;
     for _ in 0..count {
         let dump = random_dump(alloc, &mut random)?;
