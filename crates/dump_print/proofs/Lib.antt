@@ -1,6 +1,9 @@
 pub mod AddressLemmas
+pub mod CountLemmas
 pub mod FlagCover
 pub mod FlagLemmas
+pub mod HelperLemmas
+pub mod LineLemmas
 pub mod NameLemmas
 pub mod NamedLemmas
 pub mod NumberLemmas

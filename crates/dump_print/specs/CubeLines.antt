@@ -4,7 +4,7 @@ use Rattle.box_norm.specs.declared.cube.Cube.{Cube}
 use Rattle.dump_grammar.specs.Lines.{Text, Word}
 use Rattle.dump_print.specs.Addresses.{net_words}
 use Rattle.dump_print.specs.Flags.{cubes_of}
-use Rattle.dump_print.specs.Parts.{Axes, Choice, choices_in, name_words, protocol_words, iprange_words, own_module_words, own_words, listed_words, state_words, rule_words}
+use Rattle.dump_print.specs.Parts.{Axes, Choice, choices_in, name_words, protocol_words, iprange_words, own_module_words, own_words, listed_words, state_words}
 use Rattle.dump_print.specs.Ports.{port_choices}
 use Rattle.dump_print.specs.Protocols.{protocols_of}
 

@@ -13,4 +13,5 @@ pub mod Sets
 pub mod Spelling
 pub mod States
 pub mod Tables
+pub mod Views
 pub mod Written

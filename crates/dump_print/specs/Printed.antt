@@ -1,5 +1,5 @@
 -- The whole text of a filter.
-use Rattle.std.specs.Prelude.{ℕ, ◌++◌, ◌∷◌, ◌≡◌, ◌≤◌, ◌<◌, [], length, List, Option, Result, Ok, Err, Some, None, map, codes, Bool}
+use Rattle.std.specs.Prelude.{ℕ, ◌++◌, ◌∷◌, [], length, List, Option, Some, None, map, codes, Bool}
 use Rattle.std.specs.List.{flat_map}
 use Rattle.fw_rule.specs.declared.rule.Verdict.{Verdict}
 use Rattle.box_norm.specs.declared.cube.SimpleRule.{SimpleRule}

@@ -2,9 +2,12 @@
 #![tactic(auto)]
 
 mod addresses;
+mod counting;
 mod fault;
 mod flags;
+mod helpers;
 mod laws;
+mod lines;
 mod names;
 mod ports;
 mod printing;
