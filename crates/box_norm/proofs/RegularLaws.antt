@@ -14,7 +14,7 @@ use Rattle.primitives.specs.Ports.{HasPorts}
 use Rattle.box_norm.specs.declared.cube.Cube.{Cube}
 use Rattle.box_norm.specs.declared.cube.SimpleRule.{SimpleRule}
 use Rattle.box_norm.specs.Cubes.{is_none, has_no_range, has_no_name, kept}
-use Rattle.box_norm.specs.Pieces.{single, flags_where, kept_in, kept_out, cut_pieces, omit_pieces}
+use Rattle.box_norm.specs.Pieces.{single, flags_where, kept_in, kept_out, cut_pieces, omit_pieces, pieces_of}
 use Rattle.box_norm.specs.Normal.{whole_of, with_verdict}
 use Rattle.box_norm.specs.Regular.{full, HasPortsAlone, IsRegular, AreRegular, IsSound, EachCube}
 
@@ -225,6 +225,10 @@ omit_regular (Prim_.Flags mask comp) c h r =
     (flags_cut c 6 r (omega arith) (omega arith) refl (bit_xor c.flags (bit_and c.flags (flags_where mask comp 64)))))
 omit_regular (Prim_.State states) c h r = kept_all IsRegular (record c { state = bit_xor c.state (bit_and c.state states) }) (λ e. record { some = e; sport = r.sport; dport = r.dport; flags = r.flags; proto = r.proto })
 omit_regular Prim_.Always c h r = tt
+
+pub pieces_regular : {W : ℕ} (holds : Bool) (x : Prim_ W) (c : Cube W) → IsSound x → IsRegular c → AreRegular (pieces_of holds x c)
+pieces_regular true x c s r = cut_regular x c s r
+pieces_regular false x c s r = omit_regular x c s r
 
 -- the cube of all packets is regular
 pub whole_regular : (W : ℕ) → IsRegular (whole_of W)

@@ -1,5 +1,5 @@
 -- The pieces of a cube where a test holds, and where it doesn't.
-use Rattle.std.specs.Prelude.{ℕ, zero, suc, ◌^◌, ◌==◌, List, [], ◌∷◌, ◌++◌, Option, None, Some, if◌then◌else◌, bit_and, bit_or, bit_xor}
+use Rattle.std.specs.Prelude.{ℕ, zero, suc, ◌^◌, ◌==◌, List, [], ◌∷◌, ◌++◌, Bool, true, false, Option, None, Some, if◌then◌else◌, bit_and, bit_or, bit_xor}
 use Rattle.interval_set.specs.declared.set.Range.{Range}
 use Rattle.interval_set.specs.Spelling.{set_and, set_minus}
 use Rattle.name_set.specs.declared.set.NameSet.{NameSet}
@@ -53,3 +53,8 @@ omit_pieces (Prim_.Flags mask comp) c = kept (record c { proto = set_minus 8 c.p
     ++ kept (record c { proto = set_and 8 c.proto (single 6); flags = bit_xor c.flags (bit_and c.flags (flags_where mask comp 64)) })
 omit_pieces (Prim_.State states) c = kept (record c { state = bit_xor c.state (bit_and c.state states) })
 omit_pieces Prim_.Always c = []
+
+-- where the test holds, or, if it is not to hold, where it doesn't
+abbrev pub pieces_of : {W : ℕ} → Bool → Prim_ W → Cube W → List (Cube W)
+pieces_of true x = cut_pieces x
+pieces_of false x = omit_pieces x

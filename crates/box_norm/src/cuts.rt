@@ -4,12 +4,12 @@ ghost use Rattle.match_expr.specs.Meaning.{eval_of};
 ghost use Rattle.primitives.specs.declared.prim.Packet.{Packet};
 ghost use Rattle.primitives.specs.Holds.{holds_of, IsValid};
 ghost use Rattle.box_norm.specs.Cubes.{any_holds};
-ghost use Rattle.box_norm.specs.Pieces.{cut_pieces, omit_pieces};
+ghost use Rattle.box_norm.specs.Pieces.{pieces_of};
 ghost use Rattle.box_norm.specs.Cuts.{Answers, cuts_by, keep_all, omit_all, pieces_work};
 ghost use Rattle.box_norm.specs.Regular.{AreRegular};
 
 use crate::cube::{Cube, CubeFault};
-use crate::pieces::{push_cut, push_omit};
+use crate::pieces::push_pieces;
 use match_expr::{Expr, List};
 use primitives::Prim_;
 use std::alloc::{AllocError, Global};
@@ -28,37 +28,19 @@ fn cubes_copy<const W: u32>(alloc: Global, list: &[Cube<W>]) -> Result<Vec<Cube<
     Ok(copies)
 }
 
-/// The pieces of each cube where the test holds.
-fn cut_each<const W: u32>(
+/// The pieces of each cube where the test holds, or, if it is not to hold, those where it doesn't.
+fn pieces_where<const W: u32>(
     alloc: Global,
     list: &[Cube<W>],
     x: &Prim_<W>,
+    holds: bool,
 ) -> Result<List<Cube<W>>, CubeFault>
-    ensures answers { Answers (pieces_work (cut_pieces x.now) list.now) result }
+    ensures answers { Answers (pieces_work (pieces_of holds x.now) list.now) result }
     ensures regular { AreRegular list.now → IfOk result (λ l. AreRegular l) }
 {
     let mut out = Vec::new(alloc);
     for cube in list {
-        push_cut(alloc, &mut out, cube, x)?;
-        if out.len() > LIMIT {
-            return Err(CubeFault::Boxes);
-        }
-    }
-    Ok(List::of(out))
-}
-
-/// The pieces of each cube where the test doesn't hold.
-fn omit_each<const W: u32>(
-    alloc: Global,
-    list: &[Cube<W>],
-    x: &Prim_<W>,
-) -> Result<List<Cube<W>>, CubeFault>
-    ensures answers { Answers (pieces_work (omit_pieces x.now) list.now) result }
-    ensures regular { AreRegular list.now → IfOk result (λ l. AreRegular l) }
-{
-    let mut out = Vec::new(alloc);
-    for cube in list {
-        push_omit(alloc, &mut out, cube, x)?;
+        push_pieces(alloc, &mut out, cube, x, holds)?;
         if out.len() > LIMIT {
             return Err(CubeFault::Boxes);
         }
@@ -145,7 +127,7 @@ pub fn keep_list<const W: u32>(
     match e {
         Expr::All(parts) => keep_parts(alloc, list, parts.as_slice()),
         Expr::Not(part) => omit_list(alloc, list, part.get()),
-        Expr::Prim(x) => cut_each(alloc, list, x),
+        Expr::Prim(x) => pieces_where(alloc, list, x, true),
     }
 }
 
@@ -162,6 +144,6 @@ pub fn omit_list<const W: u32>(
     match e {
         Expr::All(parts) => omit_parts(alloc, list, parts.as_slice()),
         Expr::Not(part) => keep_list(alloc, list, part.get()),
-        Expr::Prim(x) => omit_each(alloc, list, x),
+        Expr::Prim(x) => pieces_where(alloc, list, x, false),
     }
 }

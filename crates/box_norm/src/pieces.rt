@@ -1,6 +1,6 @@
 ghost use Rattle.std.specs.Prelude.{◌≡◌, ◌++◌, IfOk, OnOk};
 ghost use Rattle.box_norm.specs.Cubes.{is_none, has_no_range, kept};
-ghost use Rattle.box_norm.specs.Pieces.{flags_where, cut_pieces, omit_pieces};
+ghost use Rattle.box_norm.specs.Pieces.{flags_where, cut_pieces, omit_pieces, pieces_of};
 ghost use Rattle.box_norm.specs.Regular.{IsSound};
 
 use crate::cube::Cube;
@@ -197,7 +197,7 @@ pub fn put_state<const W: u32>(
 }
 
 /// Appends the pieces of the cube where the test holds.
-pub fn push_cut<const W: u32>(
+fn push_cut<const W: u32>(
     alloc: Global,
     out: &mut Vec<Cube<W>>,
     cube: &Cube<W>,
@@ -239,7 +239,7 @@ pub fn push_cut<const W: u32>(
 }
 
 /// Appends the pieces of the cube where the test doesn't hold.
-pub fn push_omit<const W: u32>(
+fn push_omit<const W: u32>(
     alloc: Global,
     out: &mut Vec<Cube<W>>,
     cube: &Cube<W>,
@@ -296,5 +296,23 @@ pub fn push_omit<const W: u32>(
         }
         Prim_::State(states) => put_state(alloc, out, cube, cube.state ^ (cube.state & *states)),
         Prim_::Always => Ok(()),
+    }
+}
+
+/// Appends the pieces of the cube where the test holds, or, if it is not to hold, those where it doesn't.
+pub fn push_pieces<const W: u32>(
+    alloc: Global,
+    out: &mut Vec<Cube<W>>,
+    cube: &Cube<W>,
+    x: &Prim_<W>,
+    holds: bool,
+) -> Result<(), AllocError>
+    ensures pieces { OnOk result (out.new.items ≡ out.old.items ++ pieces_of holds x.now cube.now) }
+    ensures sound { OnOk result (IsSound x.now) }
+{
+    if holds {
+        push_cut(alloc, out, cube, x)
+    } else {
+        push_omit(alloc, out, cube, x)
     }
 }
