@@ -12,11 +12,11 @@ use Rattle.fw_rule.specs.declared.rule.Rule.{Rule}
 use Rattle.fw_rule.specs.declared.rule.Chain.{Chain}
 use Rattle.fw_rule.specs.declared.rule.Dump.{Dump}
 use Rattle.fw_rule.specs.Walk.{Calls, Here, Over, Reaches, RuleOf, Settled, doubt_in}
-use Rattle.fw_laws.specs.Known.{KnownAlone}
 use Rattle.box_norm.specs.declared.cube.SimpleRule.{SimpleRule}
 use Rattle.dump_grammar.specs.Lines.{Text}
 use Rattle.dump_print.specs.CubeLines.{choices_of}
 use Rattle.dump_print.specs.Helpers.{helped_from, needs_helper}
+use Rattle.printed_filter.specs.Laws.{NothingUnknown}
 use Rattle.printed_filter.specs.PrintedDump.{Helper, Said, asked_rules, helper_chains_from, helper_rules, helpers_of, placed_from, printed_dump, returns_of, verdict_action}
 use Rattle.printed_filter.proofs.RuleWalk.{lines_do, returns_back}
 use Rattle.printed_filter.proofs.Truths.{all_joined}
@@ -161,8 +161,8 @@ module _ {W : ℕ} (dump : Dump (Prim_ W)) (first : Chain (Prim_ W)) (others : L
     no_loop = λ a b r q l. let c = called a b q in back_at a b c.1 c.0 l;
   }
 
-  pub shape_known : KnownAlone dump 0
-  shape_known c rule r h = by (rule_is c rule h)
+  pub shape_known : NothingUnknown dump
+  shape_known c rule h = by (rule_is c rule h)
     where
       by : IsOf c rule → doubt_in rule.lits ≡ false
       by (inl f) = f.1.known
@@ -189,6 +189,6 @@ module _ {W : ℕ} (chain : Text) (policy : Verdict) (rules : List (SimpleRule W
   dump_settled = shape_settled (printed_dump chain policy rules) asked_chain chains_after refl asked_is_fine
       (λ i here e. chain_fine W helpers (3 + length helpers + length asked) i here (helpers_fine W rules 1) e) policy refl
 
-  pub dump_known : KnownAlone (printed_dump chain policy rules) 0
-  dump_known = shape_known (printed_dump chain policy rules) asked_chain chains_after refl asked_is_fine
+  pub nothing_unknown : NothingUnknown (printed_dump chain policy rules)
+  nothing_unknown = shape_known (printed_dump chain policy rules) asked_chain chains_after refl asked_is_fine
       (λ i here e. chain_fine W helpers (3 + length helpers + length asked) i here (helpers_fine W rules 1) e)

@@ -1,9 +1,12 @@
 -- What the dump of a printed text means.
-use Rattle.std.specs.Prelude.{ℕ, true, false, Bool, List, Option, Some, None}
+use Rattle.std.specs.Prelude.{ℕ, ◌≡◌, true, false, Bool, List, Option, Some, None, slice_get}
 use Rattle.primitives.specs.declared.prim.Packet.{Packet}
 use Rattle.primitives.specs.Holds.{holds_of, IsValid}
 use Rattle.fw_rule.specs.declared.rule.Verdict.{Verdict}
-use Rattle.fw_rule.specs.Walk.{Meaning, Settled, Walks}
+use Rattle.fw_rule.specs.declared.rule.Rule.{Rule}
+use Rattle.fw_rule.specs.declared.rule.Chain.{Chain}
+use Rattle.fw_rule.specs.declared.rule.Dump.{Dump}
+use Rattle.fw_rule.specs.Walk.{Meaning, RuleOf, Settled, Walks, doubt_in}
 use Rattle.box_norm.specs.declared.cube.SimpleRule.{SimpleRule}
 use Rattle.box_norm.specs.Normal.{first_of}
 use Rattle.box_norm.specs.Regular.{EachCube, HasStates, IsRegular}
@@ -24,8 +27,20 @@ pub record ArePrintable {W : ℕ} (rules : List (SimpleRule W)) : Type 0 where
   pub regular : EachCube IsRegular rules
   pub states : EachCube HasStates rules
 
--- the dump of the printed rules is settled, says nothing unknown, and the walk of each valid packet has the verdict of the rules
+-- no rule of any chain has an unknown literal
+abbrev pub NothingUnknown : {P : Type 0} → Dump P → Type 0
+NothingUnknown {P} dump = (chain : ℕ) (rule : Rule P) → RuleOf dump chain rule → doubt_in rule.lits ≡ false
+
+-- the first chain of the dump has this name and this policy
+abbrev pub StartsWith : {P : Type 0} → Dump P → Text → Verdict → Type 0
+StartsWith {P} dump name policy =
+    (first : Chain P) × (slice_get dump.chains 0 ≡ Some first) × (first.name ≡ name) × (first.policy ≡ Some policy)
+
+-- the first chain of the dump of the printed rules is the asked one, the dump is settled from there, it says nothing unknown,
+-- and the walk of each valid packet has the verdict of the rules
 pub record MeansItsRules {W : ℕ} (chain : Text) (policy : Verdict) (rules : List (SimpleRule W)) : Type 0 where
+  pub asked : StartsWith (printed_dump chain policy rules) chain policy
   pub settled : Settled (printed_dump chain policy rules) 0
+  pub nothing_unknown : NothingUnknown (printed_dump chain policy rules)
   pub known : KnownAlone (printed_dump chain policy rules) 0
   pub walks : (p : Packet) → IsValid W p → (m : Meaning) → Walks holds_of (printed_dump chain policy rules) p m 0 (verdict_of (first_of rules p) policy)

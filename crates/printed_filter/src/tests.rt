@@ -1,11 +1,35 @@
+ghost use Rattle.std.specs.Prelude.{◌≡◌, IfOk};
+ghost use Rattle.name_set.specs.declared.pattern.Pattern.{Pattern};
+
 use super::*;
 use box_norm::{SimpleRule, whole};
 use fw_rule::Verdict;
+use match_expr::{Bytes, List};
+use name_set::Pattern;
+use std::alloc::{AllocError, Global};
 use std::test::Fail;
 
 #[test]
 fn the_law_can_be_called_at_the_rule_of_all_packets(rt: HostRuntime) -> Result<(), Fail> {
     let cube = whole::<32>(rt.alloc())?;
+    let rules = [SimpleRule { cube, accept: true }];
+    means_its_rules(b"INPUT", Verdict::Drop, &rules);
+    Ok(())
+}
+
+fn exact(alloc: Global, text: &[u8]) -> Result<Pattern, AllocError>
+    ensures { IfOk result (λ p. p ≡ Pattern.Exact text.now) }
+{
+    Ok(Pattern::Exact(Bytes::of(Vec::from_slice(alloc, text)?)))
+}
+
+#[test]
+fn the_law_can_be_called_at_a_rule_with_a_helper_chain(rt: HostRuntime) -> Result<(), Fail> {
+    let mut excluded = Vec::new(rt.alloc());
+    excluded.push(exact(rt.alloc(), b"lo")?)?;
+    excluded.push(exact(rt.alloc(), b"eth0")?)?;
+    let mut cube = whole::<32>(rt.alloc())?;
+    cube.in_name.excluded = List::of(excluded);
     let rules = [SimpleRule { cube, accept: true }];
     means_its_rules(b"INPUT", Verdict::Drop, &rules);
     Ok(())
