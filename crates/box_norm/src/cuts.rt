@@ -1,4 +1,4 @@
-ghost use Rattle.std.specs.Prelude.{◌≡◌, ◌&&◌, IfOk, map, not};
+ghost use Rattle.std.specs.Prelude.{◌≡◌, ◌++◌, ◌&&◌, IfOk, map, not};
 ghost use Rattle.std.specs.Option.{unwrap_or};
 ghost use Rattle.match_expr.specs.Meaning.{eval_of};
 ghost use Rattle.primitives.specs.declared.prim.Packet.{Packet};
@@ -46,6 +46,19 @@ fn pieces_where<const W: u32>(
         }
     }
     Ok(List::of(out))
+}
+
+/// The cubes of both lists. Those of the second are moved only where the first has some.
+fn joined<const W: u32>(out: Vec<Cube<W>>, more: Vec<Cube<W>>) -> Result<Vec<Cube<W>>, AllocError>
+    ensures { IfOk result (λ v. v.items ≡ out.entry.items ++ more.entry.items) }
+{
+    if out.is_empty() {
+        return Ok(more);
+    }
+    let mut out = out;
+    let mut more = more;
+    out.append(&mut more)?;
+    Ok(out)
 }
 
 /// The list that is kept, and at first, where there is none yet, the one that was lent.
@@ -101,8 +114,7 @@ fn omit_parts<const W: u32>(
             Ok(more) => more,
             Err(fault) => return Err(fault),
         };
-        let mut more = more.into_vec();
-        out.append(&mut more)?;
+        out = joined(out, more.into_vec())?;
         if out.len() > LIMIT {
             return Err(CubeFault::Boxes);
         }

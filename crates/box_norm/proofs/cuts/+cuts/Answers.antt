@@ -30,8 +30,8 @@ omit_parts-returns-in-Err-clause-answers g t c = omits_fault g.row.W c.args.part
 
 pub omit_parts-returns-then-len-gt-LIMIT-clause-answers : goal.omit_parts-returns-then-len-gt-LIMIT-clause-answers
 omit_parts-returns-then-len-gt-LIMIT-clause-answers g t c =
-    omits_full g.row.W c.args.parts.now c.loop-part.part-index c.part-item.result (unwrap_or c.loop-part.kept c.args.list.now) c.list_now.result.now _ c.loop-part-test.true c.part-item.is c.list_now.ensures c.loop-part.out.items c.loop-part.invariant.work c.into_vec-more.result.items (c.into_vec-more.ensures ∙ c.in-Ok.ensures.answers.0)
-    (omega (arith, ap length c.in_ok-append.ensures.items, c.len.ensures, c.if-len-gt-LIMIT.true))
+    omits_full g.row.W c.args.parts.now c.loop-part.part-index c.part-item.result (unwrap_or c.loop-part.kept c.args.list.now) c.list_now.result.now _ c.loop-part-test.true c.part-item.is c.list_now.ensures c.loop-part.out.items c.loop-part.invariant.work c.into_vec.result.items (c.into_vec.ensures ∙ c.in-Ok.ensures.answers.0)
+    (omega (arith, ap length c.in_ok-out.ensures, c.len.ensures, c.if-len-gt-LIMIT.true))
 
 pub omit_parts-returns-in-Err-keep_list-clause-answers : goal.omit_parts-returns-in-Err-keep_list-clause-answers
 omit_parts-returns-in-Err-keep_list-clause-answers g t c = omits_keep_fault g.row.W c.args.parts.now c.loop-part.part-index c.part-item.result (unwrap_or c.loop-part.kept c.args.list.now) c.list_now-in-loop-part.result.now _ c.loop-part-test.true c.part-item.is c.list_now-in-loop-part.ensures c.loop-part.out.items c.loop-part.invariant.work c.in-Err-keep_list.fault c.in-Err-keep_list.ensures.answers
@@ -40,11 +40,11 @@ pub omit_parts-loop-part-preserved : goal.omit_parts-loop-part-preserved
 omit_parts-loop-part-preserved g t c =
     let a = rw c.list_now.ensures at c.in-Ok.ensures.answers in
     let b = rw c.list_now-in-loop-part.ensures at c.in-Ok-keep_list.ensures.answers in
-    let small : length (c.loop-part.out.items ++ c.into_vec-more.result.items) ≤ 16384 = omega (arith, ap length c.in_ok-append.ensures.items, c.len.ensures, c.if-len-gt-LIMIT.false) in
+    let small : length (c.loop-part.out.items ++ c.into_vec.result.items) ≤ 16384 = omega (arith, ap length c.in_ok-out.ensures, c.len.ensures, c.if-len-gt-LIMIT.false) in
     record {
-      work = rw c.in_ok-append.ensures.items (omits_turn g.row.W c.args.parts.now c.loop-part.part-index c.part-item.result (unwrap_or c.loop-part.kept c.args.list.now) (unwrap_or c.loop-part.kept c.args.list.now) _ c.loop-part-test.true c.part-item.is refl
-          c.loop-part.out.items c.loop-part.invariant.work c.in-Ok-keep_list.next c.into_vec-more.result.items (c.into_vec-more.ensures ∙ a.0, a.1) b small);
+      work = rw c.in_ok-out.ensures (omits_turn g.row.W c.args.parts.now c.loop-part.part-index c.part-item.result (unwrap_or c.loop-part.kept c.args.list.now) (unwrap_or c.loop-part.kept c.args.list.now) _ c.loop-part-test.true c.part-item.is refl
+          c.loop-part.out.items c.loop-part.invariant.work c.in-Ok-keep_list.next c.into_vec.result.items (c.into_vec.ensures ∙ a.0, a.1) b small);
       regular = λ h. c.in-Ok-keep_list.ensures.regular (rw c.list_now-in-loop-part.ensures (c.loop-part.invariant.regular h));
-      omitted = λ h. rw c.in_ok-append.ensures.items (all_append IsRegular c.loop-part.out.items c.into_vec-more.result.items (c.loop-part.invariant.omitted h)
-          (rw c.into_vec-more.ensures (c.in-Ok.ensures.regular (rw c.list_now.ensures (c.loop-part.invariant.regular h)))));
+      omitted = λ h. rw c.in_ok-out.ensures (all_append IsRegular c.loop-part.out.items c.into_vec.result.items (c.loop-part.invariant.omitted h)
+          (rw c.into_vec.ensures (c.in-Ok.ensures.regular (rw c.list_now.ensures (c.loop-part.invariant.regular h)))));
     }
