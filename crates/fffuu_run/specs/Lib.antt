@@ -1,5 +1,6 @@
 pub mod Counts
 pub mod Checks
+pub mod Explanations
 pub mod Filters
 pub mod Answers
 pub mod Lines

@@ -4,6 +4,7 @@
 mod answering;
 mod checking;
 mod counting;
+mod explaining;
 mod reading;
 mod status;
 mod telling;

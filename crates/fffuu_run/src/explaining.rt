@@ -1,0 +1,91 @@
+ghost use Rattle.std.specs.Prelude.{◌≡◌, ◌↔◌, ◌<◌, ◌++◌, ◌∷◌, [], IfOk, codes, decimal};
+ghost use Rattle.fw_rule.specs.Walk.{HasRoom, Settled};
+ghost use Rattle.chain_graph.specs.Results.{IsRanked};
+ghost use Rattle.fffuu_run.specs.Explanations.{Explained, both_texts, explanation_text, place_lines};
+
+use chain_graph::Ranked;
+use explain::{Explain, ExplainFault, explain};
+use fw_rule::{Dump, Place};
+use fw_text::place_text;
+use match_expr::{List, Primitive};
+use std::alloc::{AllocError, Global};
+
+// The lines of places.
+fn place_lines<P: Primitive>(
+    alloc: Global,
+    dump: &Dump<P>,
+    places: &[Place],
+) -> Result<Vec<u8>, AllocError>
+    ensures { IfOk result (λ text. text.items ≡ place_lines dump.now places.now) }
+{
+    let mut text = Vec::new(alloc);
+    for place in places {
+        place_text(alloc, dump, place, &mut text)?;
+        text.push(b'\n')?;
+    }
+    Ok(text)
+}
+
+// The line of a word and a number of places.
+fn counted(alloc: Global, word: &str, count: usize) -> Result<Vec<u8>, AllocError>
+    ensures { IfOk result (λ text. text.items ≡ word.now ++ (codes " under " ++ (decimal count ++ 10 ∷ []))) }
+{
+    let line = format!(in alloc; "{word} under {count}\n")?;
+    Ok(line.into_bytes())
+}
+
+// The explanation of the verdict of this word.
+fn explanation<P: Primitive>(
+    alloc: Global,
+    dump: &Dump<P>,
+    word: &str,
+    places: &Option<List<Place>>,
+) -> Result<Vec<u8>, AllocError>
+    ensures { IfOk result (λ text. text.items ≡ explanation_text dump.now word.now places.now) }
+{
+    let Some(places) = places else {
+        let text = format!(in alloc; "{word} never\n")?;
+        return Ok(text.into_bytes());
+    };
+    let places = places.as_slice();
+    let mut text = counted(alloc, word, places.len())?;
+    text.extend_from_slice(&place_lines(alloc, dump, places)?)?;
+    Ok(text)
+}
+
+// The explanation of both verdicts.
+fn both<P: Primitive>(
+    alloc: Global,
+    dump: &Dump<P>,
+    explained: &Explain,
+) -> Result<Vec<u8>, AllocError>
+    ensures { IfOk result (λ text. text.items ≡ both_texts dump.now explained.now.accept explained.now.drop) }
+{
+    let mut text = explanation(alloc, dump, "accept", &explained.accept)?;
+    text.extend_from_slice(&explanation(alloc, dump, "drop", &explained.drop)?)?;
+    Ok(text)
+}
+
+/// The text of the two explanations of a packet: `accept never`, or `accept under` the number of places and a line for each of
+/// them, and the same with `drop`. The places are those of the unknown literals that hold in a meaning whose walk has the
+/// verdict, in the order in which the walk comes to them. `never` stands exactly where no meaning's walk has it.
+///
+/// # Errors
+///
+/// `Visits` exactly where the visits of the chain are more than 16,777,216, or `Memory`.
+pub fn explanations<P: Primitive>(
+    alloc: Global,
+    dump: &Dump<P>,
+    ranked: &Ranked,
+    chain: u32,
+    p: &P::Packet,
+) -> Result<Vec<u8>, ExplainFault>
+    requires ranked { IsRanked dump.now chain ranked.now }
+    requires settled { Settled dump.now chain }
+    requires room { HasRoom dump.now }
+    ensures ok { IfOk result (λ text. Explained P.meaning dump.now chain p.now text.items) }
+    ensures visits { (result ≡ Err ExplainFault.Visits) ↔ (16777216 < ranked.now.visits) }
+{
+    let explained = explain(alloc, dump, ranked, chain, p)?;
+    Ok(both(alloc, dump, &explained)?)
+}
