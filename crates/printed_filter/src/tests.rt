@@ -1,5 +1,7 @@
-ghost use Rattle.std.specs.Prelude.{◌≡◌, IfOk};
+ghost use Rattle.std.specs.Prelude.{◌≡◌, ◌∷◌, [], true, IfOk};
 ghost use Rattle.name_set.specs.declared.pattern.Pattern.{Pattern};
+ghost use Rattle.dump_print.specs.Helpers.{needs_helper};
+ghost use Rattle.printed_filter.specs.Laws.{ArePrintable};
 
 use super::*;
 use box_norm::{SimpleRule, whole};
@@ -23,14 +25,21 @@ fn exact(alloc: Global, text: &[u8]) -> Result<Pattern, AllocError>
     Ok(Pattern::Exact(Bytes::of(Vec::from_slice(alloc, text)?)))
 }
 
+fn all_but_two_names(alloc: Global) -> Result<SimpleRule<32>, AllocError>
+    ensures helped { IfOk result (λ rule. needs_helper rule.cube ≡ true) }
+    ensures printable { IfOk result (λ rule. ArePrintable (rule ∷ [])) }
+{
+    let mut excluded = Vec::new(alloc);
+    excluded.push(exact(alloc, b"lo")?)?;
+    excluded.push(exact(alloc, b"eth0")?)?;
+    let mut cube = whole::<32>(alloc)?;
+    cube.in_name.excluded = List::of(excluded);
+    Ok(SimpleRule { cube, accept: true })
+}
+
 #[test]
 fn the_law_can_be_called_at_a_rule_with_a_helper_chain(rt: HostRuntime) -> Result<(), Fail> {
-    let mut excluded = Vec::new(rt.alloc());
-    excluded.push(exact(rt.alloc(), b"lo")?)?;
-    excluded.push(exact(rt.alloc(), b"eth0")?)?;
-    let mut cube = whole::<32>(rt.alloc())?;
-    cube.in_name.excluded = List::of(excluded);
-    let rules = [SimpleRule { cube, accept: true }];
+    let rules = [all_but_two_names(rt.alloc())?];
     means_its_rules(b"INPUT", Verdict::Drop, &rules);
     Ok(())
 }
