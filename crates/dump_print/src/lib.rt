@@ -22,3 +22,6 @@ pub use laws::{flags_are_kept, ports_are_kept, words_are_kept};
 pub use names::pattern_text;
 pub use printing::{Printed, print};
 pub use protocols::Protocols;
+
+#[cfg(test)]
+mod tests;
