@@ -1,10 +1,14 @@
-ghost use Rattle.std.specs.Prelude.{◌≡◌, ◌∷◌, [], Some, IfOk};
+ghost use Rattle.std.specs.Prelude.{◌≡◌, ◌∷◌, [], Some, IfOk, IsTrue};
+ghost use Rattle.closure.specs.Checked.{HasPolicy};
 
 use super::*;
+use box_norm::first;
+use chain_graph::{calls_name_chains, has_room};
+use closure::Side;
 use fw_rule::{Action, Chain, Dump, Lit, Rule, Verdict, doubtful};
 use match_expr::{Boxed, Bytes, Expr, Items, List};
 use name_set::Pattern;
-use primitives::{Packet, Prim_};
+use primitives::{Packet, Prim_, ProtoNum};
 use std::alloc::{AllocError, Global};
 use std::test::Fail;
 
@@ -145,5 +149,91 @@ fn the_laws_can_be_called_at_a_settled_dump(rt: HostRuntime) -> Result<(), Fail>
     hiding_keeps_settled(&dump);
     hiding_widens_may(&dump, 0, &packet);
     hiding_narrows_must(&dump, 0, &packet);
+    Ok(())
+}
+
+/// A chain that drops by its policy, with one rule that accepts tcp where an unknown literal holds.
+fn limited(alloc: Global) -> Result<Dump<Prim_<32>>, AllocError> {
+    let mut lits = Vec::new(alloc);
+    lits.push(Lit::Known {
+        neg: false,
+        expr: Expr::Prim(Prim_::Proto(ProtoNum { number: 6 })),
+    })?;
+    lits.push(Lit::Unknown(Bytes::of(Vec::from_slice(alloc, b"-m limit")?)))?;
+    let mut rules = Vec::new(alloc);
+    rules.push(Rule {
+        lits: List::of(lits),
+        action: Action::Accept,
+        line: 3,
+    })?;
+    let mut chains = Vec::new(alloc);
+    chains.push(Chain {
+        name: Bytes::of(Vec::from_slice(alloc, b"FORWARD")?),
+        policy: Some(Verdict::Drop),
+        rules: List::of(rules),
+    })?;
+    Ok(Dump {
+        chains: List::of(chains),
+    })
+}
+
+/// Whether the chain is there and has a policy.
+fn has_policy(dump: &Dump<Prim_<32>>, chain: u32) -> bool
+    ensures { IsTrue result → HasPolicy dump.now chain }
+{
+    match dump.chains.as_slice().get(chain as usize) {
+        Some(here) => here.policy.is_some(),
+        None => false,
+    }
+}
+
+/// A packet of the protocol.
+fn of_proto(alloc: Global, proto: u8) -> Packet {
+    Packet {
+        in_name: Bytes::of(Vec::new(alloc)),
+        out_name: Bytes::of(Vec::new(alloc)),
+        src: 0,
+        dst: 0,
+        proto,
+        sport: 53,
+        dport: 53,
+        flags: 0,
+        state: 1,
+    }
+}
+
+/// What the first simple rule of the first chain answers for a packet of the protocol.
+fn first_answer(
+    alloc: Global,
+    dump: &Dump<Prim_<32>>,
+    side: Side,
+    proto: u8,
+) -> Result<Option<bool>, Fail> {
+    if !has_policy(dump, 0) {
+        return Err("no policy".into());
+    }
+    if !has_room(dump) {
+        return Err("no room".into());
+    }
+    if !calls_name_chains(dump) {
+        return Err("a call to no chain".into());
+    }
+    match closed(alloc, dump, 0, side) {
+        Ok(rules) => Ok(first(rules.as_slice(), &of_proto(alloc, proto))),
+        Err(_) => Err("a refusal".into()),
+    }
+}
+
+#[test]
+fn what_may_be_accepted_and_what_must_be(rt: HostRuntime) -> Result<(), Fail> {
+    let alloc = rt.alloc();
+    let dump = limited(alloc)?;
+    for (side, proto, answer) in [
+        (Side::Upper, 6, Some(true)),
+        (Side::Upper, 17, None),
+        (Side::Lower, 6, None),
+    ] {
+        assert!(rt; first_answer(alloc, &dump, side, proto)? == answer);
+    }
     Ok(())
 }
