@@ -3,10 +3,10 @@ use Rattle.std.proofs.Common.{◌≡◌, ◌∙◌, ◌⊎◌, ◌≤◌, ◌++�
 use Rattle.request.specs.Requests.{Spells}
 use Rattle.request.specs.declared.types.Request.{Request}
 use Rattle.fffuu_run.specs.Answers.{IsAnswer, Refuses}
-use Rattle.fffuu_run.specs.Runs.{Ends, IsStatus, IsStatusOf, Devices, ReadsTooMuch, ReadsWhole, IsReported, most}
+use Rattle.fffuu_run.specs.Runs.{Ends, IsStatus, IsStatusOf, Devices, KeepsSink, ReadsTooMuch, ReadsWhole, IsReported, Works, most}
 use Rattle.fffuu_run.specs.declared.status.Status.{Status}
 use Rattle.fffuu_run.specs.declared.status.Status.TheVariants as status
-use Rattle.fffuu_run.proofs.Causes.{no_cause, one_cause}
+use Rattle.fffuu_run.proofs.Causes.{IsRefusal, is_refusal, no_cause, one_cause}
 
 -- what was read to the end is what was left
 whole_text : (left new : Option (List ℕ)) (bytes text : List ℕ) → left ≡ Some bytes → ReadsWhole left new text → text ≡ bytes
@@ -101,3 +101,19 @@ pub exact : (words : List (List ℕ)) (old new : Devices) (first s : Status) →
     → (r : Request) → Spells words r → IfSome old.left (λ text. IsStatusOf r text s)
 exact words old new first s e settled r spells =
     if_some old.left (λ text. IsStatusOf r text s) (decided words old new first s e settled r spells)
+
+-- a text that was read to its end and has no answer leaves the sink as it was
+told : (request : Request) (old new : Devices) (text : List ℕ) (s : Status) → ReadsWhole old.left new.left text → KeepsSink old new
+    → Refuses request text s → IsRefusal s → Works request old new s
+told request old new text status.Ok whole kept refuses kind = absurd kind
+told request old new text status.Usage whole kept refuses kind = absurd kind
+told request old new text status.ReadFault whole kept refuses kind = absurd kind
+told request old new text status.WriteFault whole kept refuses kind = absurd kind
+told request old new text status.InputTooLong whole kept refuses kind = absurd kind
+told request old new text status.Memory whole kept refuses kind = kept
+told request old new text s whole kept refuses kind = (text, whole, refuses, kept)
+
+pub refusal_works : (request : Request) (old new : Devices) (text : List ℕ) (s : Status) → ReadsWhole old.left new.left text → KeepsSink old new
+    → (s ≡ status.Memory) ⊎ Refuses request text s → Works request old new s
+refusal_works request old new text s whole kept (inl memory) = subst (Works request old new) (sym memory) kept
+refusal_works request old new text s whole kept (inr refuses) = told request old new text s whole kept refuses (is_refusal request text s refuses)

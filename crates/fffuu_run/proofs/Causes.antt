@@ -1,136 +1,28 @@
 -- A text has one cause of refusal at most, and none where it has an answer.
-use Rattle.std.proofs.Common.{◌≡◌, ◌∙◌, ◌≤◌, ℕ, List, Bool, true, false, Option, Some, None, refl, inl, inr, arith, ap, sym, subst, slice_get}
+use Rattle.std.proofs.Common.{◌≡◌, ◌∙◌, ◌≤◌, ℕ, List, Bool, true, false, Option, Some, None, refl, inl, inr, arith, ap, sym, subst}
 use Rattle.primitives.specs.declared.prim.Prim_.{Prim_}
 use Rattle.addr_text.specs.Grammar.{IsIpv4, IsIpv6}
 use Rattle.addr_text.specs.Ipv4Laws.{ipv4_one, ipv4_plain, ipv4_not_number}
 use Rattle.addr_text.specs.Ipv6Laws.{ipv6_one, ipv6_plain, ipv6_not_number}
 use Rattle.addr_text.proofs.TextLemmas.{IsFamily}
+use Rattle.closure.specs.declared.sides.Side.{Side}
 use Rattle.dump_grammar.proofs.PolicyLemmas.{one_chain_line}
 use Rattle.dump_read.proofs.Readers.{one_rule as one_rule_line}
 use Rattle.dump_read.proofs.ReadingLemmas.{one_dump_of, one_malformed_of, one_undefined_of, exclude_of}
-use Rattle.fw_rule.specs.declared.rule.Rule.{Rule}
-use Rattle.fw_rule.specs.declared.rule.Chain.{Chain}
 use Rattle.fw_rule.specs.declared.rule.Dump.{Dump}
-use Rattle.fw_rule.specs.declared.rule.Action.{Action}
-use Rattle.fw_rule.specs.Calls.{Reaches, RuleOf}
-use Rattle.chain_graph.specs.Paths.{HasPath}
-use Rattle.chain_graph.specs.Faults.{NoneUnsupported, IsLeastUnsupported, IsFirstLoop, NoLoop}
 use Rattle.dump_grammar.specs.Reads.{IsDump}
 use Rattle.dump_read.specs.Laws.{ExcludeEachOther, HasOneDump, HasOneMalformedLine, HasOneUndefinedLine}
 use Rattle.request.specs.declared.types.Mode.{Mode}
 use Rattle.request.specs.declared.types.Mode.TheVariants as mode
 use Rattle.request.specs.declared.types.Request.{Request}
-use Rattle.fffuu_run.specs.Checks.{Checks, IsChecked, RefusesChain, RefusesCheck, RefusesText, asked_chain}
-use Rattle.fffuu_run.specs.Filters.{RefusesUpper}
-use Rattle.fffuu_run.specs.Answers.{IsAnswer, IsOutput, Refuses, RefusesMode}
+use Rattle.fffuu_run.specs.Checks.{Checks, RefusesChain, RefusesCheck, RefusesText}
+use Rattle.fffuu_run.specs.Filters.{Filters, RefusesFilter, RefusesNamed}
+use Rattle.fffuu_run.specs.Answers.{IsAnswer, IsOutput, IsOutputIn, Refuses, RefusesMode, RefusesModeIn, ipv4_of, ipv6_of}
 use Rattle.fffuu_run.specs.declared.status.Status.{Status}
 use Rattle.fffuu_run.specs.declared.status.Status.TheVariants as status
-use Rattle.fffuu_run.specs.declared.status.Kind.TheVariants as kind
 use Rattle.fffuu_run.proofs.DumpLemmas.{one_rule}
-use Rattle.fffuu_run.proofs.Lines.{later_once, upper_or_later}
-
-one_some : {A : Type 0} (o : Option A) (x y : A) → o ≡ Some x → o ≡ Some y → x ≡ y
-one_some o x y a b = cc
-
-none_or_some : {A : Type 0} (o : Option A) (x : A) → o ≡ None → o ≡ Some x → ⊥
-none_or_some o x a b = cc
-
-module _ {P : Type 0} (dump : Dump P) where
-  -- rules on one line are the same
-  OneRule : Type 0
-  OneRule = (a b : ℕ) (r s : Rule P) → RuleOf dump a r → RuleOf dump b s → r.line ≡ s.line → r ≡ s
-
-  one_name : (r s : Rule P) (n m : List ℕ) → r ≡ s → r.action ≡ Action.Other n → s.action ≡ Action.Other m → n ≡ m
-  one_name r s n m is a b = cc
-
-  least_once : (asked line line' : ℕ) (n n' : List ℕ) → OneRule → IsLeastUnsupported dump asked line n → IsLeastUnsupported dump asked line' n'
-      → status.Unsupported line n ≡ status.Unsupported line' n'
-  unfolding OneRule
-  least_once asked line line' n n' one ((r, (c, reach, in_c, is), at), low) ((s, (d, reach', in_d, is'), at'), low') =
-      let below : line ≤ line' = omega (arith, low s n' (d, reach', in_d, is'), at') in
-      let above : line' ≤ line = omega (arith, low' r n (c, reach, in_c, is), at) in
-      let lines : line ≡ line' = omega arith in
-      let names : n ≡ n' = one_name r s n n' (one c d r s in_c in_d (at ∙ lines ∙ sym at')) is is' in
-      cc
-
-  loop_once : (asked c d : ℕ) → IsFirstLoop dump asked c → IsFirstLoop dump asked d → c ≡ d
-  loop_once asked c d (a, low) (b, low') = omega (arith, low d b, low' c a)
-
-  unsupported : (asked line : ℕ) (n : List ℕ) → NoneUnsupported dump asked → IsLeastUnsupported dump asked line n → ⊥
-  unsupported asked line n none ((r, is, at), low) = none r n is
-
-  with_none : (name : List ℕ) (s : Status) → asked_chain name dump ≡ None → RefusesChain dump name s → s ≡ status.NoChain
-  with_none name status.NoChain none r = refl
-  with_none name (status.Unsupported line n) none (asked, there, least) = absurd (none_or_some (asked_chain name dump) asked none there)
-  with_none name (status.CallLoop n) none (asked, c, there, loop, named) = absurd (none_or_some (asked_chain name dump) asked none there)
-  with_none name (status.Limit kind.Depth) none (asked, there, deep) = absurd (none_or_some (asked_chain name dump) asked none there)
-  with_none name s none r = absurd r
-
-  with_unsupported : (name : List ℕ) (s : Status) (asked line : ℕ) (n : List ℕ) → OneRule → asked_chain name dump ≡ Some asked
-      → IsLeastUnsupported dump asked line n → RefusesChain dump name s → s ≡ status.Unsupported line n
-  with_unsupported name status.NoChain asked line n one there least r = absurd (none_or_some (asked_chain name dump) asked r there)
-  with_unsupported name (status.Unsupported line' n') asked line n one there least (asked', there', least') =
-      let same : asked' ≡ asked = one_some (asked_chain name dump) asked' asked there' there in
-      least_once asked line' line n' n one (subst (λ (a : ℕ). IsLeastUnsupported dump a line' n') same least') least
-  with_unsupported name (status.CallLoop n') asked line n one there least (asked', c, there', (none, loop), named) =
-      let same : asked' ≡ asked = one_some (asked_chain name dump) asked' asked there' there in
-      absurd (unsupported asked line n (subst (NoneUnsupported dump) same none) least)
-  with_unsupported name (status.Limit kind.Depth) asked line n one there least (asked', there', (none, no_loop, path)) =
-      let same : asked' ≡ asked = one_some (asked_chain name dump) asked' asked there' there in
-      absurd (unsupported asked line n (subst (NoneUnsupported dump) same none) least)
-  with_unsupported name s asked line n one there least r = absurd r
-
-  with_loop : (name : List ℕ) (s : Status) (asked c : ℕ) (here : Chain P) (n : List ℕ) → asked_chain name dump ≡ Some asked → NoneUnsupported dump asked
-      → IsFirstLoop dump asked c → slice_get dump.chains c ≡ Some here → here.name ≡ n → RefusesChain dump name s → s ≡ status.CallLoop n
-  with_loop name status.NoChain asked c here n there none loop at named r = absurd (none_or_some (asked_chain name dump) asked r there)
-  with_loop name (status.Unsupported line n') asked c here n there none loop at named (asked', there', least) =
-      let same : asked' ≡ asked = one_some (asked_chain name dump) asked' asked there' there in
-      absurd (unsupported asked line n' none (subst (λ (a : ℕ). IsLeastUnsupported dump a line n') same least))
-  with_loop name (status.CallLoop n') asked c here n there none loop at named (asked', c', there', (none', loop'), (here', at', named')) =
-      let same : asked' ≡ asked = one_some (asked_chain name dump) asked' asked there' there in
-      let chains : c' ≡ c = loop_once asked c' c (subst (λ (a : ℕ). IsFirstLoop dump a c') same loop') loop in
-      let heres : here' ≡ here = one_some (slice_get dump.chains c) here' here (subst (λ (k : ℕ). slice_get dump.chains k ≡ Some here') chains at') at in
-      let names : n' ≡ n = sym named' ∙ ap (λ (h : Chain P). h.name) heres ∙ named in
-      ap status.CallLoop names
-  with_loop name (status.Limit kind.Depth) asked c here n there none loop at named (asked', there', (none', no_loop, path)) =
-      let same : asked' ≡ asked = one_some (asked_chain name dump) asked' asked there' there in
-      absurd (subst (NoLoop dump) same no_loop c loop.0)
-  with_loop name s asked c here n there none loop at named r = absurd r
-
-  with_depth : (name : List ℕ) (s : Status) (asked : ℕ) → asked_chain name dump ≡ Some asked → NoneUnsupported dump asked → NoLoop dump asked
-      → RefusesChain dump name s → s ≡ status.Limit kind.Depth
-  with_depth name status.NoChain asked there none no_loop r = absurd (none_or_some (asked_chain name dump) asked r there)
-  with_depth name (status.Unsupported line n) asked there none no_loop (asked', there', least) =
-      let same : asked' ≡ asked = one_some (asked_chain name dump) asked' asked there' there in
-      absurd (unsupported asked line n none (subst (λ (a : ℕ). IsLeastUnsupported dump a line n) same least))
-  with_depth name (status.CallLoop n) asked there none no_loop (asked', c, there', (none', loop), named) =
-      let same : asked' ≡ asked = one_some (asked_chain name dump) asked' asked there' there in
-      absurd (no_loop c (subst (λ (a : ℕ). IsFirstLoop dump a c) same loop).0)
-  with_depth name (status.Limit kind.Depth) asked there none no_loop r = refl
-  with_depth name s asked there none no_loop r = absurd r
-
-  -- a chain is refused for one cause at most
-  one_chain : (name : List ℕ) (s t : Status) → OneRule → RefusesChain dump name s → RefusesChain dump name t → s ≡ t
-  one_chain name status.NoChain t one none r = sym (with_none name t none r)
-  one_chain name (status.Unsupported line n) t one (asked, there, least) r = sym (with_unsupported name t asked line n one there least r)
-  one_chain name (status.CallLoop n) t one (asked, c, there, (none, loop), (here, at, named)) r =
-      sym (with_loop name t asked c here n there none loop at named r)
-  one_chain name (status.Limit kind.Depth) t one (asked, there, (none, no_loop, path)) r = sym (with_depth name t asked there none no_loop r)
-  one_chain name s t one r q = absurd r
-
-  -- a checked chain isn't refused
-  not_refused : (name : List ℕ) (s : Status) → IsChecked dump name → RefusesChain dump name s → ⊥
-  not_refused name status.NoChain checked r = none_or_some (asked_chain name dump) checked.asked r checked.there
-  not_refused name (status.Unsupported line n) checked (asked, there, ((r, (c, reach, in_c, is), at), low)) =
-      let same : asked ≡ checked.asked = one_some (asked_chain name dump) asked checked.asked there checked.there in
-      checked.settled.known_targets c r n (subst (λ (a : ℕ). Reaches dump a c) same reach) in_c is
-  not_refused name (status.CallLoop n) checked (asked, c, there, (none, ((reach, (k, calls, back)), low)), named) =
-      let same : asked ≡ checked.asked = one_some (asked_chain name dump) asked checked.asked there checked.there in
-      checked.settled.no_loop c k (subst (λ (a : ℕ). Reaches dump a c) same reach) calls back
-  not_refused name (status.Limit kind.Depth) checked (asked, there, (none, no_loop, path)) =
-      let same : asked ≡ checked.asked = one_some (asked_chain name dump) asked checked.asked there checked.there in
-      omega (arith, checked.depth 257 (subst (λ (a : ℕ). HasPath dump a 257) same path))
-  not_refused name s checked r = r
+use Rattle.fffuu_run.proofs.ChainCauses.{one_chain, not_refused}
+use Rattle.fffuu_run.proofs.FilterCauses.{one_named, not_named}
 
 -- what is known of the reading of texts
 record ReadingLaws (W : ℕ) (Reads : List ℕ → ℕ → Type 0) : Type 0 where
@@ -164,7 +56,6 @@ module _ {W : ℕ} {Reads : List ℕ → ℕ → Type 0} (laws : ReadingLaws W R
   not_both text dump s reads r = r
 
   one_check : (name text : List ℕ) (s t : Status) → RefusesCheck W Reads name text s → RefusesCheck W Reads name text t → s ≡ t
-  unfolding OneRule
   one_check name text s t (inl fault) (inl other) = one_fault text s t fault other
   one_check name text s t (inl fault) (inr (dump, reads, chain)) = absurd (not_both text dump s reads fault)
   one_check name text s t (inr (dump, reads, chain)) (inl fault) = absurd (not_both text dump t reads fault)
@@ -178,19 +69,37 @@ module _ {W : ℕ} {Reads : List ℕ → ℕ → Type 0} (laws : ReadingLaws W R
       let same : dump ≡ checks.dump = laws.one_dump text dump checks.dump reads checks.reads in
       not_refused checks.dump name s checks.checked (subst (λ (d : Dump (Prim_ W)). RefusesChain d name s) same chain)
 
-one_upper : (six : Bool) (name text : List ℕ) (s t : Status) → RefusesUpper six name text s → RefusesUpper six name text t → s ≡ t
-one_upper six name text (status.Later m) (status.Later n) p q = ap status.Later (later_once six text m n p q)
-one_upper six name text (status.Later m) status.NoChain p (other, (written, upper)) = absurd (upper_or_later six text written m upper p)
-one_upper six name text status.NoChain (status.Later n) (other, (written, upper)) q = absurd (upper_or_later six text written n upper q)
-one_upper six name text (status.Later m) t p q = absurd q
-one_upper six name text status.NoChain status.NoChain p q = refl
-one_upper six name text status.NoChain t p q = absurd q
-one_upper six name text s t p q = absurd p
+  -- a text is refused a filter for one cause at most
+  one_filter : (text_of : ℕ → List ℕ) (side : Side) (name text : List ℕ) (s t : Status) → RefusesFilter W Reads text_of side name text s
+      → RefusesFilter W Reads text_of side name text t → s ≡ t
+  one_filter text_of side name text s t (inl fault) (inl other) = one_fault text s t fault other
+  one_filter text_of side name text s t (inl fault) (inr (dump, reads, named)) = absurd (not_both text dump s reads fault)
+  one_filter text_of side name text s t (inr (dump, reads, named)) (inl fault) = absurd (not_both text dump t reads fault)
+  one_filter text_of side name text s t (inr (dump, reads, named)) (inr (dump', reads', named')) =
+      let same : dump' ≡ dump = laws.one_dump text dump' dump reads' reads in
+      one_named text_of side dump name s t (one_rule Reads text dump reads) named
+      (subst (λ (d : Dump (Prim_ W)). RefusesNamed text_of side d name t) same named')
 
-no_upper : (six : Bool) (name text written : List ℕ) (s : Status) → IsOutput mode.Upper six name text written → RefusesUpper six name text s → ⊥
-no_upper six name text written (status.Later n) (is, upper) r = upper_or_later six text written n upper r
-no_upper six name text written status.NoChain (is, upper) (other, more) = other is
-no_upper six name text written s o r = r
+  -- a text with a filter isn't refused it
+  no_filter : (text_of : ℕ → List ℕ) (side : Side) (name text written : List ℕ) (s : Status) → Filters W Reads text_of side name text written
+      → RefusesFilter W Reads text_of side name text s → ⊥
+  no_filter text_of side name text written s filters (inl fault) = not_both text filters.dump s filters.reads fault
+  no_filter text_of side name text written s filters (inr (dump, reads, named)) =
+      let same : dump ≡ filters.dump = laws.one_dump text dump filters.dump reads filters.reads in
+      not_named text_of side filters.dump name filters.chain filters.policy written s filters.there filters.filter
+      (subst (λ (d : Dump (Prim_ W)). RefusesNamed text_of side d name s) same named)
+
+  one_mode : (text_of : ℕ → List ℕ) (m : Mode) (name text : List ℕ) (s t : Status) → RefusesMode W Reads text_of m name text s
+      → RefusesMode W Reads text_of m name text t → s ≡ t
+  one_mode text_of mode.Check name text s t p q = one_check name text s t p q
+  one_mode text_of mode.Upper name text s t p q = one_filter text_of Side.Upper name text s t p q
+  one_mode text_of mode.Lower name text s t p q = one_filter text_of Side.Lower name text s t p q
+
+  no_mode : (text_of : ℕ → List ℕ) (m : Mode) (name text written : List ℕ) (s : Status) → IsOutput W Reads text_of m name text written
+      → RefusesMode W Reads text_of m name text s → ⊥
+  no_mode text_of mode.Check name text written s o r = no_check name text written s o r
+  no_mode text_of mode.Upper name text written s o r = no_filter text_of Side.Upper name text written s o r
+  no_mode text_of mode.Lower name text written s o r = no_filter text_of Side.Lower name text written s o r
 
 -- a family's addresses are read in one way, and so are texts
 laws_of : (W : ℕ) (Reads : List ℕ → ℕ → Type 0) → IsFamily Reads → W ≤ 128 → ReadingLaws W Reads
@@ -209,22 +118,72 @@ ipv4_laws = laws_of 32 IsIpv4 (record { one = ipv4_one; plain = ipv4_plain; not_
 ipv6_laws : ReadingLaws 128 IsIpv6
 ipv6_laws = laws_of 128 IsIpv6 (record { one = ipv6_one; plain = ipv6_plain; not_number = ipv6_not_number }) (omega arith)
 
-one_mode : (m : Mode) (six : Bool) (name text : List ℕ) (s t : Status) → RefusesMode m six name text s → RefusesMode m six name text t → s ≡ t
-one_mode mode.Check false name text s t p q = one_check ipv4_laws name text s t p q
-one_mode mode.Check true name text s t p q = one_check ipv6_laws name text s t p q
-one_mode mode.Upper six name text s t p q = one_upper six name text s t p q
-one_mode m six name text s t p q = p ∙ sym q
+one_in : (six : Bool) (m : Mode) (name text : List ℕ) (s t : Status) → RefusesModeIn six m name text s → RefusesModeIn six m name text t → s ≡ t
+one_in false m name text s t p q = one_mode ipv4_laws ipv4_of m name text s t p q
+one_in true m name text s t p q = one_mode ipv6_laws ipv6_of m name text s t p q
 
-no_mode : (m : Mode) (six : Bool) (name text written : List ℕ) (s : Status) → IsOutput m six name text written → RefusesMode m six name text s → ⊥
-no_mode mode.Check false name text written s o r = no_check ipv4_laws name text written s o r
-no_mode mode.Check true name text written s o r = no_check ipv6_laws name text written s o r
-no_mode mode.Upper six name text written s o r = no_upper six name text written s o r
-no_mode m six name text written s o r = o
+no_in : (six : Bool) (m : Mode) (name text written : List ℕ) (s : Status) → IsOutputIn six m name text written → RefusesModeIn six m name text s → ⊥
+no_in false m name text written s o r = no_mode ipv4_laws ipv4_of m name text written s o r
+no_in true m name text written s o r = no_mode ipv6_laws ipv6_of m name text written s o r
 
 -- a text has one cause of refusal at most
 pub one_cause : (request : Request) (text : List ℕ) (s t : Status) → Refuses request text s → Refuses request text t → s ≡ t
-one_cause request text s t p q = one_mode request.mode request.six request.chain text s t p q
+one_cause request text s t p q = one_in request.six request.mode request.chain text s t p q
 
 -- a text with an answer has none
 pub no_cause : (request : Request) (text written : List ℕ) (s : Status) → IsAnswer request text written → Refuses request text s → ⊥
-no_cause request text written s o r = no_mode request.mode request.six request.chain text written s o r
+no_cause request text written s o r = no_in request.six request.mode request.chain text written s o r
+
+-- a status that tells why a text has no answer
+abbrev pub IsRefusal : Status → Type 0
+IsRefusal status.Ok = ⊥
+IsRefusal status.Usage = ⊥
+IsRefusal status.ReadFault = ⊥
+IsRefusal status.WriteFault = ⊥
+IsRefusal status.InputTooLong = ⊥
+IsRefusal status.Memory = ⊥
+IsRefusal s = Unit {0}
+
+text_refusal : (W : ℕ) (Reads : List ℕ → ℕ → Type 0) (text : List ℕ) (s : Status) → RefusesText W Reads text s → IsRefusal s
+text_refusal W Reads text (status.Malformed n) r = tt
+text_refusal W Reads text status.NoFilter r = tt
+text_refusal W Reads text (status.UndefinedChain n) r = tt
+text_refusal W Reads text s r = absurd r
+
+chain_refusal : {P : Type 0} (dump : Dump P) (name : List ℕ) (s : Status) → RefusesChain dump name s → IsRefusal s
+chain_refusal dump name status.NoChain r = tt
+chain_refusal dump name (status.Unsupported n target) r = tt
+chain_refusal dump name (status.CallLoop looped) r = tt
+chain_refusal dump name (status.Limit k) r = tt
+chain_refusal dump name s r = absurd r
+
+named_refusal : {W : ℕ} (text_of : ℕ → List ℕ) (side : Side) (dump : Dump (Prim_ W)) (name : List ℕ) (s : Status)
+    → RefusesNamed text_of side dump name s → IsRefusal s
+named_refusal text_of side dump name status.NoChain r = tt
+named_refusal text_of side dump name (status.Unsupported n target) r = tt
+named_refusal text_of side dump name (status.CallLoop looped) r = tt
+named_refusal text_of side dump name (status.Limit k) r = tt
+named_refusal text_of side dump name s (chain, there, r) = absurd r
+
+check_refusal : (W : ℕ) (Reads : List ℕ → ℕ → Type 0) (name text : List ℕ) (s : Status) → RefusesCheck W Reads name text s → IsRefusal s
+check_refusal W Reads name text s (inl r) = text_refusal W Reads text s r
+check_refusal W Reads name text s (inr (dump, reads, r)) = chain_refusal dump name s r
+
+filter_refusal : (W : ℕ) (Reads : List ℕ → ℕ → Type 0) (text_of : ℕ → List ℕ) (side : Side) (name text : List ℕ) (s : Status)
+    → RefusesFilter W Reads text_of side name text s → IsRefusal s
+filter_refusal W Reads text_of side name text s (inl r) = text_refusal W Reads text s r
+filter_refusal W Reads text_of side name text s (inr (dump, reads, r)) = named_refusal text_of side dump name s r
+
+mode_refusal : (W : ℕ) (Reads : List ℕ → ℕ → Type 0) (text_of : ℕ → List ℕ) (m : Mode) (name text : List ℕ) (s : Status)
+    → RefusesMode W Reads text_of m name text s → IsRefusal s
+mode_refusal W Reads text_of mode.Check name text s r = check_refusal W Reads name text s r
+mode_refusal W Reads text_of mode.Upper name text s r = filter_refusal W Reads text_of Side.Upper name text s r
+mode_refusal W Reads text_of mode.Lower name text s r = filter_refusal W Reads text_of Side.Lower name text s r
+
+in_refusal : (six : Bool) (m : Mode) (name text : List ℕ) (s : Status) → RefusesModeIn six m name text s → IsRefusal s
+in_refusal false m name text s r = mode_refusal 32 IsIpv4 ipv4_of m name text s r
+in_refusal true m name text s r = mode_refusal 128 IsIpv6 ipv6_of m name text s r
+
+-- why a text has no answer is one of the causes that its status tells
+pub is_refusal : (request : Request) (text : List ℕ) (s : Status) → Refuses request text s → IsRefusal s
+is_refusal request text s r = in_refusal request.six request.mode request.chain text s r

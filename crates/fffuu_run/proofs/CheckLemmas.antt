@@ -20,9 +20,9 @@ front_true : (a b : Bool) → (a && b) ≡ true → a ≡ true
 front_true true b is = refl
 front_true false b is = is
 
-policy_there : (o : Option Verdict) → is_some o ≡ true → (v : Verdict) × (o ≡ Some v)
-policy_there (Some v) is = (v, refl)
-policy_there None is = absurd (cc)
+some_policy : (o : Option Verdict) → is_some o ≡ true → (v : Verdict) × (o ≡ Some v)
+some_policy (Some v) is = (v, refl)
+some_policy None is = absurd (cc)
 
 position_below : {X : Type 0} (p : X → Bool) (xs : List X) (i : ℕ) → position p xs ≡ Some i → i < length xs
 position_below p [] i is = absurd (cc)
@@ -30,14 +30,14 @@ position_below p (x ∷ xs) i is = (position-Some p (x ∷ xs) i x is).0
 
 module _ {P : Type 0} (dump : Dump P) where
   -- a chain that was asked about is there, with a policy
-  asked_there : (name : List ℕ) (asked : ℕ) → asked_chain name dump ≡ Some asked
+  pub asked_there : (name : List ℕ) (asked : ℕ) → asked_chain name dump ≡ Some asked
       → (here : Chain P) × (v : Verdict) × (slice_get dump.chains asked ≡ Some here) × (here.policy ≡ Some v)
   asked_there name asked is =
       let (here, at) = found_at dump.chains asked (position_below (is_asked name) dump.chains asked is) in
       let tested = (position-Some (is_asked name) dump.chains asked here is).1 in
       let same : get_or dump.chains asked here ≡ here = get_or_from_slice_get dump.chains asked here here at in
       let asks : is_asked name here ≡ true = subst (λ (h : Chain P). is_asked name h ≡ true) same tested in
-      let (v, policy) = policy_there here.policy (front_true (is_some here.policy) (bytes_eq here.name name) asks) in
+      let (v, policy) = some_policy here.policy (front_true (is_some here.policy) (bytes_eq here.name name) asks) in
       (here, v, at, policy)
 
   rank_most : (asked : ℕ) (o : Option ℕ) → MatchOption o (Reaches dump asked asked → ⊥) (λ r. Reaches dump asked asked × IsRank dump asked r × (r ≤ 256))

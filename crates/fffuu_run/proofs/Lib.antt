@@ -1,6 +1,8 @@
 pub mod DumpLemmas
 pub mod SizeLemmas
 pub mod CheckLemmas
-pub mod Lines
+pub mod ChainCauses
+pub mod FilterCauses
+pub mod FilterLemmas
 pub mod Causes
 pub mod Cases

@@ -1,32 +1,50 @@
 -- What is answered to a request for a text, and why nothing is.
-use Rattle.std.specs.Prelude.{ℕ, ◌≡◌, List, Bool, true, false}
+use Rattle.std.specs.Prelude.{ℕ, List, Bool, true, false}
+use Rattle.std.specs.Net.Text.{hex_groups_text, ipv4_text}
+use Rattle.addr_text.specs.Digits.{digits_of}
 use Rattle.addr_text.specs.Grammar.{IsIpv4, IsIpv6}
+use Rattle.closure.specs.declared.sides.Side.{Side}
 use Rattle.request.specs.declared.types.Mode.{Mode}
 use Rattle.request.specs.declared.types.Mode.TheVariants as mode
 use Rattle.request.specs.declared.types.Request.{Request}
 use Rattle.fffuu_run.specs.Checks.{Checks, RefusesCheck}
-use Rattle.fffuu_run.specs.Filters.{IsUpper, RefusesUpper, form_chain}
+use Rattle.fffuu_run.specs.Filters.{Filters, RefusesFilter}
 use Rattle.fffuu_run.specs.declared.status.Status.{Status}
-use Rattle.fffuu_run.specs.declared.status.Status.TheVariants as status
 
--- a mode's stated output over the addresses of a family, IPv6 where it is true, for a chain's name and a text
-abbrev pub IsOutput : Mode → Bool → List ℕ → List ℕ → List ℕ → Type 0
-IsOutput mode.Check false name text written = Checks 32 IsIpv4 name text written
-IsOutput mode.Check true name text written = Checks 128 IsIpv6 name text written
-IsOutput mode.Upper six name text written = (name ≡ form_chain) × IsUpper six text written
-IsOutput m six name text written = ⊥
+-- `Reads` says which text is one of which address of `W` bits, and `text_of` is the one text that is written for an address
+module _ (W : ℕ) (Reads : List ℕ → ℕ → Type 0) (text_of : ℕ → List ℕ) where
+  -- a mode's stated output for a chain's name and a text
+  abbrev pub IsOutput : Mode → List ℕ → List ℕ → List ℕ → Type 0
+  IsOutput mode.Check name text written = Checks W Reads name text written
+  IsOutput mode.Upper name text written = Filters W Reads text_of Side.Upper name text written
+  IsOutput mode.Lower name text written = Filters W Reads text_of Side.Lower name text written
 
--- why a mode has no output; one that isn't built yet can't read the first line
-abbrev pub RefusesMode : Mode → Bool → List ℕ → List ℕ → Status → Type 0
-RefusesMode mode.Check false name text s = RefusesCheck 32 IsIpv4 name text s
-RefusesMode mode.Check true name text s = RefusesCheck 128 IsIpv6 name text s
-RefusesMode mode.Upper six name text s = RefusesUpper six name text s
-RefusesMode m six name text s = s ≡ status.Later 1
+  -- why a mode has no output
+  abbrev pub RefusesMode : Mode → List ℕ → List ℕ → Status → Type 0
+  RefusesMode mode.Check name text s = RefusesCheck W Reads name text s
+  RefusesMode mode.Upper name text s = RefusesFilter W Reads text_of Side.Upper name text s
+  RefusesMode mode.Lower name text s = RefusesFilter W Reads text_of Side.Lower name text s
+
+-- the text of an IPv4 address, and of an IPv6 one
+abbrev pub ipv4_of : ℕ → List ℕ
+ipv4_of value = ipv4_text (digits_of 256 4 value)
+
+abbrev pub ipv6_of : ℕ → List ℕ
+ipv6_of value = hex_groups_text (digits_of 65536 8 value)
+
+-- the stated output over the addresses of a family, IPv6 ones where it is true
+abbrev pub IsOutputIn : Bool → Mode → List ℕ → List ℕ → List ℕ → Type 0
+IsOutputIn false m name text written = IsOutput 32 IsIpv4 ipv4_of m name text written
+IsOutputIn true m name text written = IsOutput 128 IsIpv6 ipv6_of m name text written
+
+abbrev pub RefusesModeIn : Bool → Mode → List ℕ → List ℕ → Status → Type 0
+RefusesModeIn false m name text s = RefusesMode 32 IsIpv4 ipv4_of m name text s
+RefusesModeIn true m name text s = RefusesMode 128 IsIpv6 ipv6_of m name text s
 
 -- the stated output of a request for a text
 abbrev pub IsAnswer : Request → List ℕ → List ℕ → Type 0
-IsAnswer request text written = IsOutput request.mode request.six request.chain text written
+IsAnswer request text written = IsOutputIn request.six request.mode request.chain text written
 
 -- the status of a text that has no answer
 abbrev pub Refuses : Request → List ℕ → Status → Type 0
-Refuses request text s = RefusesMode request.mode request.six request.chain text s
+Refuses request text s = RefusesModeIn request.six request.mode request.chain text s

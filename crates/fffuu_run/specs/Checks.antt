@@ -12,7 +12,7 @@ use Rattle.dump_grammar.specs.Reads.{IsDump, IsMalformed, HasNoFilter, IsUndefin
 use Rattle.fffuu_run.specs.Counts.{counts_line}
 use Rattle.fffuu_run.specs.declared.status.Status.{Status}
 use Rattle.fffuu_run.specs.declared.status.Status.TheVariants as status
-use Rattle.fffuu_run.specs.declared.status.Kind.TheVariants as kind
+use Rattle.simple_filter.specs.declared.refusal.Kind.TheVariants as kind
 
 module _ {P : Type 0} where
   -- whether the chain has this name and a policy

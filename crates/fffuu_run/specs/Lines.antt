@@ -3,8 +3,8 @@ use Rattle.std.specs.Prelude.{ℕ, List, [], ◌∷◌, ◌++◌, codes, decimal
 use Rattle.fw_text.specs.Names.{shown_name}
 use Rattle.fffuu_run.specs.declared.status.Status.{Status}
 use Rattle.fffuu_run.specs.declared.status.Status.TheVariants as status
-use Rattle.fffuu_run.specs.declared.status.Kind.{Kind}
-use Rattle.fffuu_run.specs.declared.status.Kind.TheVariants as kind
+use Rattle.simple_filter.specs.declared.refusal.Kind.{Kind}
+use Rattle.simple_filter.specs.declared.refusal.Kind.TheVariants as kind
 use Rattle.fffuu_run.specs.declared.telling.Line.{Line}
 use Rattle.fffuu_run.specs.declared.telling.Line.TheVariants as line
 
@@ -22,10 +22,17 @@ code_of (status.Unsupported n name) = 9
 code_of (status.CallLoop name) = 10
 code_of (status.Limit k) = 11
 code_of status.Memory = 12
-code_of (status.Later n) = 13
 
 abbrev pub word_of : Kind → List ℕ
 word_of kind.Depth = codes "depth"
+word_of kind.Nodes = codes "nodes"
+word_of kind.Literals = codes "literals"
+word_of kind.Boxes = codes "boxes"
+word_of kind.Rules = codes "rules"
+word_of kind.Lines = codes "lines"
+word_of kind.Atoms = codes "atoms"
+word_of kind.Regions = codes "regions"
+word_of kind.Visits = codes "visits"
 
 -- a line that the program writes of itself
 abbrev pub told : List ℕ → List ℕ
@@ -45,7 +52,6 @@ line_of asked status.NoChain = told (codes "no chain " ++ shown_name asked)
 line_of asked (status.Unsupported n name) = told (codes "line " ++ decimal n ++ codes ": unsupported target " ++ shown_name name)
 line_of asked (status.CallLoop name) = told (codes "call loop through " ++ shown_name name)
 line_of asked (status.Limit k) = told (codes "limit " ++ word_of k)
-line_of asked (status.Later n) = told (codes "line " ++ decimal n ++ codes ": not built yet")
 line_of asked status.Memory = told (codes "out of memory")
 
 -- a status whose line has a number or a name in it, and so takes memory
@@ -55,7 +61,6 @@ IsBuilt (status.UndefinedChain n) = Unit {0}
 IsBuilt status.NoChain = Unit {0}
 IsBuilt (status.Unsupported n name) = Unit {0}
 IsBuilt (status.CallLoop name) = Unit {0}
-IsBuilt (status.Later n) = Unit {0}
 IsBuilt s = ⊥
 
 -- the bytes of a line of the code

@@ -4,7 +4,9 @@
 mod answering;
 mod checking;
 mod counting;
+mod dumps;
 mod explaining;
+mod filtering;
 mod reading;
 mod status;
 mod telling;
@@ -14,7 +16,8 @@ mod writing;
 
 pub use answering::answer;
 pub use request::{Mode, Request, SpellFault, one_request, spell};
-pub use status::{Kind, Status};
+pub use simple_filter::Kind;
+pub use status::Status;
 pub use top::{run, run_pure};
 
 #[cfg(test)]

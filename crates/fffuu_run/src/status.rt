@@ -3,14 +3,8 @@ ghost use Rattle.fffuu_run.specs.Lines.{code_of};
 ghost use Rattle.fffuu_run.specs.declared.status.Status.TheVariants.{Memory};
 
 use match_expr::Bytes;
+use simple_filter::Kind;
 use std::alloc::AllocError;
-
-/// What is limited.
-#[derive(Clone, Copy, Debug, PartialEq, Eq)]
-pub enum Kind {
-    /// The chains on a call path: at most 256.
-    Depth,
-}
 
 /// How a run ends.
 #[derive(Debug, Drop)]
@@ -51,9 +45,6 @@ pub enum Status {
     /// The number of this kind is past its limit.
     Limit { kind: Kind },
 
-    /// This line, from 1, is the first that the mode can't read yet.
-    Later { line: u32 },
-
     /// Memory ran out.
     Memory,
 }
@@ -77,7 +68,6 @@ impl Status {
             Status::CallLoop { .. } => 10,
             Status::Limit { .. } => 11,
             Status::Memory => 12,
-            Status::Later { .. } => 13,
         }
     }
 }

@@ -1,13 +1,13 @@
 ghost use Rattle.std.specs.Prelude.{◌≡◌, ◌++◌, ℕ, List, IfOk, OnErr, codes, decimal};
 ghost use Rattle.fw_text.specs.Names.{shown_name};
-ghost use Rattle.fffuu_run.specs.Lines.{IsBuilt, line_of, text_of, told};
+ghost use Rattle.fffuu_run.specs.Lines.{IsBuilt, line_of, text_of, told, word_of};
 ghost use Rattle.fffuu_run.specs.Runs.{IsReported, WritesLine};
 
 use crate::Status;
-use crate::status::Kind;
 use crate::writing::write_all;
 use fw_io::Sink;
 use fw_text::shown;
+use simple_filter::Kind;
 use std::alloc::{AllocError, Global};
 
 // The line of a status. One with a number or a name in it is built.
@@ -29,6 +29,22 @@ impl Line {
 }
 
 const OUT_OF_MEMORY: &[u8] = b"fffuu: out of memory\n";
+
+fn limit_line(kind: Kind) -> &'static [u8]
+    ensures { result.now ≡ told (codes "limit " ++ word_of kind) }
+{
+    match kind {
+        Kind::Depth => b"fffuu: limit depth\n",
+        Kind::Nodes => b"fffuu: limit nodes\n",
+        Kind::Literals => b"fffuu: limit literals\n",
+        Kind::Boxes => b"fffuu: limit boxes\n",
+        Kind::Rules => b"fffuu: limit rules\n",
+        Kind::Lines => b"fffuu: limit lines\n",
+        Kind::Atoms => b"fffuu: limit atoms\n",
+        Kind::Regions => b"fffuu: limit regions\n",
+        Kind::Visits => b"fffuu: limit visits\n",
+    }
+}
 
 // A line with this text.
 fn built(alloc: Global, text: &[u8]) -> Result<Line, AllocError>
@@ -71,16 +87,13 @@ fn line_for(alloc: Global, asked: &[u8], status: &Status) -> Result<Line, AllocE
         Status::WriteFault => b"fffuu: write failed\n",
         Status::InputTooLong => b"fffuu: input is longer than 16777216 bytes\n",
         Status::NoFilter => b"fffuu: no filter table\n",
-        Status::Limit { kind: Kind::Depth } => b"fffuu: limit depth\n",
+        Status::Limit { kind } => limit_line(*kind),
         Status::Memory => OUT_OF_MEMORY,
         Status::Malformed { line } => {
             return built(alloc, &numbered(alloc, *line, ": malformed")?);
         }
         Status::UndefinedChain { line } => {
             return built(alloc, &numbered(alloc, *line, ": undefined chain")?);
-        }
-        Status::Later { line } => {
-            return built(alloc, &numbered(alloc, *line, ": not built yet")?);
         }
         Status::NoChain => return named(alloc, b"no chain ", asked),
         Status::Unsupported { line, name } => {

@@ -58,9 +58,9 @@ fn answered<S: Source, O: Sink>(
 
 /// Reads the words, then the source to its end, and writes the answer to `out`. A refusal is told in one line on `err`.
 ///
-/// The words are those after the program's name: a mode, `check` or `upper`, and perhaps `--chain NAME` and `--family 4` or
-/// `--family 6`. The text has at most 16,777,216 bytes. The answer to `check` is a line of counts of its filter table. For
-/// `upper` the text is one chain of prefix rules, and the answer is its upper filter.
+/// The words are those after the program's name: a mode, `check`, `upper` or `lower`, and perhaps `--chain NAME` and
+/// `--family 4` or `--family 6`. The text has at most 16,777,216 bytes. The answer to `check` is a line of counts of its
+/// filter table, and to `upper` and `lower` a filter of that side, as text.
 ///
 /// The refusals in their order; each comes only where none before it does:
 /// - `Usage` exactly where the words spell no request. The source stays unread.
@@ -72,11 +72,10 @@ fn answered<S: Source, O: Sink>(
 /// - `NoChain` exactly where the asked chain isn't declared with a policy.
 /// - `Unsupported` exactly where that is the least line of a rule in reach whose target isn't supported.
 /// - `CallLoop` exactly where that is the first declared chain in reach that calls itself over some path.
-/// - `Limit` exactly where the number of that kind is past its limit.
+/// - `Limit` exactly where the number of that kind is past its limit, and no kind before it is: the chains on a call path for
+///   all modes, then for a filter the items of the rewritten tree, the literals of its flat list, the longest list of cubes,
+///   the simple rules and the printed lines.
 /// - `WriteFault` only where the count of `out` rose. Less than the whole answer went out.
-///
-/// For `upper` the text is refused by its form alone: `Later` exactly where that line is the first outside the form, the number
-/// of lines plus one where more are wanted, and then `NoChain` where the asked chain isn't FORWARD.
 ///
 /// `Memory` may stand in place of each. After a refusal other than `WriteFault` nothing went out.
 pub fn run<S: Source, O: Sink, E: Sink>(
