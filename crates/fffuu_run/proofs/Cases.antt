@@ -1,9 +1,11 @@
 -- What follows from the end of a run.
 use Rattle.std.proofs.Common.{◌≡◌, ◌∙◌, ◌⊎◌, ◌≤◌, ◌++◌, ℕ, List, Option, Some, None, IfSome, refl, inl, inr, arith, ap, sym, subst, length, length-append, append-nil}
 use Rattle.request.specs.Requests.{Spells}
+use Rattle.request.proofs.RequestLaws.{spells_once}
 use Rattle.request.specs.declared.types.Request.{Request}
+use Rattle.fffuu_run.specs.Lines.{line_of}
 use Rattle.fffuu_run.specs.Answers.{IsAnswer, Refuses}
-use Rattle.fffuu_run.specs.Runs.{Ends, IsStatus, IsStatusOf, Devices, KeepsSink, ReadsTooMuch, ReadsWhole, IsReported, Works, most}
+use Rattle.fffuu_run.specs.Runs.{WritesLine, Ends, IsStatus, IsStatusOf, Devices, KeepsSink, ReadsTooMuch, ReadsWhole, IsReported, Works, most}
 use Rattle.fffuu_run.specs.declared.status.Status.{Status}
 use Rattle.fffuu_run.specs.declared.status.Status.TheVariants as status
 use Rattle.fffuu_run.proofs.Causes.{IsRefusal, is_refusal, no_cause, one_cause}
@@ -26,7 +28,7 @@ long_text (Some old) (Some rest) bytes text is w short =
 
 -- words spell one request
 one_request : (words : List (List ℕ)) (r s : Request) → Spells words r → Spells words s → r ≡ s
-one_request words r s a b = cc
+one_request words r s a b = spells_once words r s a b
 
 stays : (first s : Status) → IsReported first s → (s ≡ first) ⊎ (s ≡ status.Memory)
 stays first s (inl is) = inl is
@@ -117,3 +119,18 @@ pub refusal_works : (request : Request) (old new : Devices) (text : List ℕ) (s
     → (s ≡ status.Memory) ⊎ Refuses request text s → Works request old new s
 refusal_works request old new text s whole kept (inl memory) = subst (Works request old new) (sym memory) kept
 refusal_works request old new text s whole kept (inr refuses) = told request old new text s whole kept refuses (is_refusal request text s refuses)
+
+-- the asked name stands in the line of one status alone
+same_line : (a b : List ℕ) (s : Status) → (s ≡ status.NoChain → a ≡ b) → line_of a s ≡ line_of b s
+same_line a b status.NoChain same = ap (λ (name : List ℕ). line_of name status.NoChain) (same refl)
+same_line a b s same = refl
+
+no_chain : (first s : Status) → IsReported first s → s ≡ status.NoChain → first ≡ status.NoChain
+no_chain first s (inl same) is = sym same ∙ is
+no_chain first s (inr (built, memory)) is = absurd (let f : status.Memory ≡ status.NoChain = sym memory ∙ is in cc)
+
+-- so a front of the line with the right name was written
+pub told_named : (old new : Option (List ℕ)) (before now : ℕ) (a b : List ℕ) (first s : Status) → (first ≡ status.NoChain → a ≡ b) → IsReported first s
+    → (sent rest : List ℕ) × WritesLine old new before now (line_of a s) sent rest → (sent rest : List ℕ) × WritesLine old new before now (line_of b s) sent rest
+told_named old new before now a b first s same settled told =
+    subst (λ (line : List ℕ). (sent rest : List ℕ) × WritesLine old new before now line sent rest) (same_line a b s (λ is. same (no_chain first s settled is))) told

@@ -16,12 +16,15 @@ use Rattle.request.specs.declared.types.Mode.{Mode}
 use Rattle.request.specs.declared.types.Mode.TheVariants as mode
 use Rattle.request.specs.declared.types.Request.{Request}
 use Rattle.fffuu_run.specs.Checks.{Checks, RefusesChain, RefusesCheck, RefusesText}
+use Rattle.primitives.specs.declared.prim.Packet.{Packet}
+use Rattle.fffuu_run.specs.Explanations.{Explains, RefusesExplain, RefusesExplained}
 use Rattle.fffuu_run.specs.Filters.{Filters, RefusesFilter, RefusesNamed}
 use Rattle.fffuu_run.specs.Answers.{IsAnswer, IsOutput, IsOutputIn, Refuses, RefusesMode, RefusesModeIn, ipv4_of, ipv6_of}
 use Rattle.fffuu_run.specs.declared.status.Status.{Status}
 use Rattle.fffuu_run.specs.declared.status.Status.TheVariants as status
 use Rattle.fffuu_run.proofs.DumpLemmas.{one_rule}
 use Rattle.fffuu_run.proofs.ChainCauses.{one_chain, not_refused}
+use Rattle.fffuu_run.proofs.VisitLemmas.{one_explained, not_explained}
 use Rattle.fffuu_run.proofs.FilterCauses.{one_named, not_named}
 
 -- what is known of the reading of texts
@@ -89,17 +92,35 @@ module _ {W : ℕ} {Reads : List ℕ → ℕ → Type 0} (laws : ReadingLaws W R
       not_named text_of side filters.dump name filters.chain filters.policy written s filters.there filters.filter
       (subst (λ (d : Dump (Prim_ W)). RefusesNamed text_of side d name s) same named)
 
+  -- a text is refused an explanation for one cause at most
+  one_explain : (name text : List ℕ) (s t : Status) → RefusesExplain W Reads name text s → RefusesExplain W Reads name text t → s ≡ t
+  one_explain name text s t (inl fault) (inl other) = one_fault text s t fault other
+  one_explain name text s t (inl fault) (inr (dump, reads, named)) = absurd (not_both text dump s reads fault)
+  one_explain name text s t (inr (dump, reads, named)) (inl fault) = absurd (not_both text dump t reads fault)
+  one_explain name text s t (inr (dump, reads, named)) (inr (dump', reads', named')) =
+      let same : dump' ≡ dump = laws.one_dump text dump' dump reads' reads in
+      one_explained dump name s t (one_rule Reads text dump reads) named (subst (λ (d : Dump (Prim_ W)). RefusesExplained d name t) same named')
+
+  -- a text with an explanation isn't refused it
+  no_explain : (name text : List ℕ) (p : Packet) (written : List ℕ) (s : Status) → Explains W Reads name text p written → RefusesExplain W Reads name text s → ⊥
+  no_explain name text p written s explains (inl fault) = not_both text explains.dump s explains.reads fault
+  no_explain name text p written s explains (inr (dump, reads, named)) =
+      let same : dump ≡ explains.dump = laws.one_dump text dump explains.dump reads explains.reads in
+      not_explained explains.dump name s explains.checked explains.few (subst (λ (d : Dump (Prim_ W)). RefusesExplained d name s) same named)
+
   one_mode : (text_of : ℕ → List ℕ) (m : Mode) (name text : List ℕ) (s t : Status) → RefusesMode W Reads text_of m name text s
       → RefusesMode W Reads text_of m name text t → s ≡ t
   one_mode text_of mode.Check name text s t p q = one_check name text s t p q
   one_mode text_of mode.Upper name text s t p q = one_filter text_of Side.Upper name text s t p q
   one_mode text_of mode.Lower name text s t p q = one_filter text_of Side.Lower name text s t p q
+  one_mode text_of (mode.Explain packet) name text s t p q = one_explain name text s t p q
 
   no_mode : (text_of : ℕ → List ℕ) (m : Mode) (name text written : List ℕ) (s : Status) → IsOutput W Reads text_of m name text written
       → RefusesMode W Reads text_of m name text s → ⊥
   no_mode text_of mode.Check name text written s o r = no_check name text written s o r
   no_mode text_of mode.Upper name text written s o r = no_filter text_of Side.Upper name text written s o r
   no_mode text_of mode.Lower name text written s o r = no_filter text_of Side.Lower name text written s o r
+  no_mode text_of (mode.Explain packet) name text written s o r = no_explain name text packet written s o r
 
 -- a family's addresses are read in one way, and so are texts
 laws_of : (W : ℕ) (Reads : List ℕ → ℕ → Type 0) → IsFamily Reads → W ≤ 128 → ReadingLaws W Reads
@@ -174,11 +195,20 @@ filter_refusal : (W : ℕ) (Reads : List ℕ → ℕ → Type 0) (text_of : ℕ 
 filter_refusal W Reads text_of side name text s (inl r) = text_refusal W Reads text s r
 filter_refusal W Reads text_of side name text s (inr (dump, reads, r)) = named_refusal text_of side dump name s r
 
+explained_refusal : {P : Type 0} (dump : Dump P) (name : List ℕ) (s : Status) → RefusesExplained dump name s → IsRefusal s
+explained_refusal dump name (status.Limit k) r = tt
+explained_refusal dump name s r = chain_refusal dump name s r
+
+explain_refusal : (W : ℕ) (Reads : List ℕ → ℕ → Type 0) (name text : List ℕ) (s : Status) → RefusesExplain W Reads name text s → IsRefusal s
+explain_refusal W Reads name text s (inl r) = text_refusal W Reads text s r
+explain_refusal W Reads name text s (inr (dump, reads, r)) = explained_refusal dump name s r
+
 mode_refusal : (W : ℕ) (Reads : List ℕ → ℕ → Type 0) (text_of : ℕ → List ℕ) (m : Mode) (name text : List ℕ) (s : Status)
     → RefusesMode W Reads text_of m name text s → IsRefusal s
 mode_refusal W Reads text_of mode.Check name text s r = check_refusal W Reads name text s r
 mode_refusal W Reads text_of mode.Upper name text s r = filter_refusal W Reads text_of Side.Upper name text s r
 mode_refusal W Reads text_of mode.Lower name text s r = filter_refusal W Reads text_of Side.Lower name text s r
+mode_refusal W Reads text_of (mode.Explain packet) name text s r = explain_refusal W Reads name text s r
 
 in_refusal : (six : Bool) (m : Mode) (name text : List ℕ) (s : Status) → RefusesModeIn six m name text s → IsRefusal s
 in_refusal false m name text s r = mode_refusal 32 IsIpv4 ipv4_of m name text s r

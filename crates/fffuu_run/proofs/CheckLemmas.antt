@@ -46,16 +46,18 @@ module _ {P : Type 0} (dump : Dump P) where
   rank_most asked (Some r) (reached, (has, most), low) n path = omega (arith, most n path, low)
 
   pub is_checked : (name : List ℕ) (asked : ℕ) (r : Ranked) → asked_chain name dump ≡ Some asked → SettledByPolicy dump asked → IsRanked dump asked r
-      → IsChecked dump name
+      → (checked : IsChecked dump name) × IsRanked dump checked.asked r
   is_checked name asked r is settled ranked =
       let (here, v, at, policy) = asked_there name asked is in
-      let (o, rank) = found_at r.ranks asked (omega (arith, slice_get_within dump.chains asked here at, ranked.ranks.0)) in
-      record {
-        asked = asked;
-        there = is;
-        settled = settled here v at policy;
-        depth = rank_most asked o (ranked.ranks.1 asked o rank);
-      }
+      let (o, rank) = found_at r.ranks asked (omega (arith, slice_get_within dump.chains asked here at, ranked.ranks.0)) in (
+        record {
+          asked = asked;
+          there = is;
+          settled = settled here v at policy;
+          depth = rank_most asked o (ranked.ranks.1 asked o rank);
+        },
+        ranked,
+      )
 
   -- a chain that calls itself is there
   pub loop_inside : (asked c : ℕ) → IsFirstLoop dump asked c → c < length dump.chains

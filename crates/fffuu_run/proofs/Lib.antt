@@ -2,6 +2,7 @@ pub mod DumpLemmas
 pub mod SizeLemmas
 pub mod CheckLemmas
 pub mod ChainCauses
+pub mod VisitLemmas
 pub mod FilterCauses
 pub mod FilterLemmas
 pub mod Causes

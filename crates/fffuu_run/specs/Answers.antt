@@ -8,6 +8,7 @@ use Rattle.request.specs.declared.types.Mode.{Mode}
 use Rattle.request.specs.declared.types.Mode.TheVariants as mode
 use Rattle.request.specs.declared.types.Request.{Request}
 use Rattle.fffuu_run.specs.Checks.{Checks, RefusesCheck}
+use Rattle.fffuu_run.specs.Explanations.{Explains, RefusesExplain}
 use Rattle.fffuu_run.specs.Filters.{Filters, RefusesFilter}
 use Rattle.fffuu_run.specs.declared.status.Status.{Status}
 
@@ -18,12 +19,14 @@ module _ (W : ℕ) (Reads : List ℕ → ℕ → Type 0) (text_of : ℕ → List
   IsOutput mode.Check name text written = Checks W Reads name text written
   IsOutput mode.Upper name text written = Filters W Reads text_of Side.Upper name text written
   IsOutput mode.Lower name text written = Filters W Reads text_of Side.Lower name text written
+  IsOutput (mode.Explain p) name text written = Explains W Reads name text p written
 
   -- why a mode has no output
   abbrev pub RefusesMode : Mode → List ℕ → List ℕ → Status → Type 0
   RefusesMode mode.Check name text s = RefusesCheck W Reads name text s
   RefusesMode mode.Upper name text s = RefusesFilter W Reads text_of Side.Upper name text s
   RefusesMode mode.Lower name text s = RefusesFilter W Reads text_of Side.Lower name text s
+  RefusesMode (mode.Explain p) name text s = RefusesExplain W Reads name text s
 
 -- the text of an IPv4 address, and of an IPv6 one
 abbrev pub ipv4_of : ℕ → List ℕ

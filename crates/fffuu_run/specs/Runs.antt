@@ -2,7 +2,7 @@
 use Rattle.std.specs.Prelude.{◌≡◌, ◌<◌, ◌≤◌, ◌+◌, ◌++◌, ◌⊎◌, [], ℕ, List, Option, None, Some, length}
 use Rattle.std.specs.Io.KnownBytes.{Appends, Consumes, IsAtEnd}
 use Rattle.fw_io.specs.Causes.{Rose}
-use Rattle.request.specs.Requests.{Spells, spelled_by}
+use Rattle.request.specs.Requests.{Spells, chain_in}
 use Rattle.request.specs.declared.types.Request.{Request}
 use Rattle.fffuu_run.specs.Answers.{IsAnswer, Refuses}
 use Rattle.fffuu_run.specs.Lines.{IsBuilt}
@@ -73,13 +73,9 @@ Ends words old new status.Usage = ((request : Request) → Spells words request 
 Ends words old new status.Memory = KeepsSink old new
 Ends words old new s = (request : Request) × Spells words request × Works request old new s
 
--- the name of the chain that is asked about, the empty one where nothing is
-abbrev pub chain_of : Option Request → List ℕ
-chain_of None = []
-chain_of (Some request) = request.chain
-
+-- the name of the chain that the words ask about
 abbrev pub asked_in : List (List ℕ) → List ℕ
-asked_in words = chain_of (spelled_by words)
+asked_in words = chain_in words
 
 -- the one status, or a read that failed, or want of memory
 abbrev pub IsStatus : Status → Status → Type 0

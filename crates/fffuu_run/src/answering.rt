@@ -4,6 +4,7 @@ ghost use Rattle.fffuu_run.specs.Answers.{IsAnswer, IsOutput, Refuses, RefusesMo
 
 use crate::Status;
 use crate::checking::check_text;
+use crate::explaining::explain_text;
 use crate::filtering::filter_text;
 use addr_text::{Family, V4, V6};
 use closure::Side;
@@ -22,10 +23,11 @@ fn output<F: Family<W>, const W: u32>(
     ensures refused { IfErr result (λ s. (s ≡ Status.Memory) ⊎ RefusesMode W F.Reads F.text_of request.now.mode request.now.chain text.now s) }
 {
     let name = request.chain.as_slice();
-    match request.mode {
+    match &request.mode {
         Mode::Check => check_text::<F, W>(alloc, name, text),
         Mode::Upper => filter_text::<F, W>(alloc, Side::Upper, name, text),
         Mode::Lower => filter_text::<F, W>(alloc, Side::Lower, name, text),
+        Mode::Explain(packet) => explain_text::<F, W>(alloc, name, text, packet),
     }
 }
 

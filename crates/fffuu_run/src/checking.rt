@@ -1,5 +1,6 @@
 ghost use Rattle.std.specs.Prelude.{◌≡◌, ◌≤◌, ◌<◌, ◌^◌, ◌⊎◌, ℕ, Some, None, IfOk, IfErr, OnOk, IfSome, IfNone, length, slice_get};
 ghost use Rattle.chain_graph.specs.Paths.{CallsNameChains};
+ghost use Rattle.chain_graph.specs.Results.{IsRanked};
 ghost use Rattle.chain_graph.specs.Refusals.{Refuses as RefusesGraph};
 ghost use Rattle.fw_rule.specs.Calls.{HasRoom};
 ghost use Rattle.interval_set.specs.Numbers.{IsWidth};
@@ -9,24 +10,24 @@ use crate::Status;
 use crate::counting::counts;
 use crate::dumps::{asked, name_of, read};
 use addr_text::Family;
-use chain_graph::{GraphFault, check};
+use chain_graph::{GraphFault, Ranked, check};
 use fw_rule::Dump;
 use match_expr::Primitive;
 use simple_filter::Kind;
 use std::alloc::Global;
 
-// Checks the chain of this name.
-fn checked<P: Primitive>(alloc: Global, dump: &Dump<P>, name: &[u8]) -> Result<(), Status>
+/// Checks and ranks the chain of this name.
+pub fn checked<P: Primitive>(alloc: Global, dump: &Dump<P>, name: &[u8]) -> Result<Ranked, Status>
     requires room { HasRoom dump.now }
     requires named { CallsNameChains dump.now }
-    ensures ok { OnOk result (IsChecked dump.now name.now) }
+    ensures ok { IfOk result (λ r. (checked : IsChecked dump.now name.now) × IsRanked dump.now checked.asked r) }
     ensures refused { IfErr result (λ s. (s ≡ Status.Memory) ⊎ RefusesChain dump.now name.now s) }
 {
     let Some(chain) = asked(dump, name) else {
         return Err(Status::NoChain);
     };
     match check(alloc, dump, chain as u32) {
-        Ok(_) => Ok(()),
+        Ok(ranked) => Ok(ranked),
         Err(GraphFault::Unsupported { line, name }) => Err(Status::Unsupported { line, name }),
         Err(GraphFault::Loop { chain }) => {
             let name = name_of(alloc, dump, chain)?;
@@ -49,6 +50,6 @@ pub fn check_text<F: Family<W>, const W: u32>(
     ensures refused { IfErr result (λ s. (s ≡ Status.Memory) ⊎ RefusesCheck W F.Reads name.now text.now s) }
 {
     let dump = read::<F, W>(alloc, text)?;
-    checked(alloc, &dump, name)?;
+    let _ = checked(alloc, &dump, name)?;
     Ok(counts(alloc, &dump)?)
 }

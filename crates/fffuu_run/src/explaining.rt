@@ -1,13 +1,20 @@
-ghost use Rattle.std.specs.Prelude.{◌≡◌, ◌↔◌, ◌<◌, ◌++◌, ◌∷◌, [], IfOk, codes, decimal};
+ghost use Rattle.std.specs.Prelude.{◌≡◌, ◌↔◌, ◌<◌, ◌≤◌, ◌⊎◌, IfErr, length, ◌++◌, ◌∷◌, [], IfOk, codes, decimal};
 ghost use Rattle.fw_rule.specs.Walk.{HasRoom, Settled};
 ghost use Rattle.chain_graph.specs.Results.{IsRanked};
-ghost use Rattle.fffuu_run.specs.Explanations.{Explained, both_texts, explanation_text, place_lines};
+ghost use Rattle.interval_set.specs.Numbers.{IsWidth};
+ghost use Rattle.fffuu_run.specs.Explanations.{Explained, Explains, RefusesExplain, both_texts, explanation_text, place_lines};
 
+use crate::Status;
+use crate::checking::checked;
+use crate::dumps::read;
+use addr_text::Family;
 use chain_graph::Ranked;
 use explain::{Explain, ExplainFault, explain};
 use fw_rule::{Dump, Place};
 use fw_text::place_text;
 use match_expr::{List, Primitive};
+use primitives::Packet;
+use simple_filter::Kind;
 use std::alloc::{AllocError, Global};
 
 // The lines of places.
@@ -66,14 +73,11 @@ fn both<P: Primitive>(
     Ok(text)
 }
 
-/// The text of the two explanations of a packet: `accept never`, or `accept under` the number of places and a line for each of
-/// them, and the same with `drop`. The places are those of the unknown literals that hold in a meaning whose walk has the
-/// verdict, in the order in which the walk comes to them. `never` stands exactly where no meaning's walk has it.
-///
-/// # Errors
-///
-/// `Visits` exactly where the visits of the chain are more than 16,777,216, or `Memory`.
-pub fn explanations<P: Primitive>(
+// The text of the two explanations of a packet: `accept never`, or `accept under` the number of places and a line for each of
+// them, and the same with `drop`. The places are those of the unknown literals that hold in a meaning whose walk has the
+// verdict, in the order in which the walk comes to them. `never` stands exactly where no meaning's walk has it.
+// `Visits` comes exactly where the visits of the chain are more than 16,777,216.
+fn explanations<P: Primitive>(
     alloc: Global,
     dump: &Dump<P>,
     ranked: &Ranked,
@@ -88,4 +92,25 @@ pub fn explanations<P: Primitive>(
 {
     let explained = explain(alloc, dump, ranked, chain, p)?;
     Ok(both(alloc, dump, &explained)?)
+}
+
+/// Explains a packet in the chain of this name of a text: how it is accepted and how it is dropped.
+pub fn explain_text<F: Family<W>, const W: u32>(
+    alloc: Global,
+    name: &[u8],
+    text: &[u8],
+    packet: &Packet,
+) -> Result<Vec<u8>, Status>
+    requires width { IsWidth W }
+    requires size { length text.now ≤ 16777216 }
+    ensures ok { IfOk result (λ written. Explains W F.Reads name.now text.now packet.now written.items) }
+    ensures refused { IfErr result (λ s. (s ≡ Status.Memory) ⊎ RefusesExplain W F.Reads name.now text.now s) }
+{
+    let dump = read::<F, W>(alloc, text)?;
+    let ranked = checked(alloc, &dump, name)?;
+    match explanations(alloc, &dump, &ranked, ranked.entry, packet) {
+        Ok(written) => Ok(written),
+        Err(ExplainFault::Visits) => Err(Status::Limit { kind: Kind::Visits }),
+        Err(ExplainFault::Memory) => Err(Status::Memory),
+    }
 }

@@ -300,3 +300,51 @@ fn a_run_over_bytes_has_the_same_status(rt: HostRuntime) -> Result<(), Fail> {
     assert_eq!(rt; run_pure(rt.alloc(), &words, input).code(), 0);
     Ok(())
 }
+
+// The packet that is explained.
+const PACKET: [&str; 2] = ["explain", "src=10.0.0.1"];
+
+#[test]
+fn the_last_visit_that_will_do_explains(rt: HostRuntime) -> Result<(), Fail> {
+    let input = b"*filter\n\
+:FORWARD DROP [0:0]\n\
+:L - [0:0]\n\
+-A FORWARD -j L\n\
+-A FORWARD -j L\n\
+-A L -m limit --limit 5/min -j ACCEPT\n\
+COMMIT\n";
+    writes(
+        &rt,
+        rt.alloc(),
+        &PACKET,
+        input,
+        b"accept under 1\nFORWARD 2 > L 1 literal 1\ndrop under 0\n",
+    )
+}
+
+#[test]
+fn what_never_comes_is_told(rt: HostRuntime) -> Result<(), Fail> {
+    let wanted = b"accept never\ndrop under 0\n";
+    writes(&rt, rt.alloc(), &PACKET, RETURN, wanted)
+}
+
+#[test]
+fn many_doubtful_calls_are_explained_at_once(rt: HostRuntime) -> Result<(), Fail> {
+    let mut input = b"*filter\n:FORWARD DROP [0:0]\n:C - [0:0]\n".to_vec(rt.alloc())?;
+    for _ in 0..64 {
+        input.extend_from_slice(b"-A FORWARD -m limit --limit 1/sec -j C\n")?;
+    }
+    input.extend_from_slice(b"-A C -m limit --limit 1/sec -j RETURN\nCOMMIT\n")?;
+    let wanted = b"accept never\ndrop under 0\n";
+    writes(&rt, rt.alloc(), &PACKET, &input, wanted)
+}
+
+#[test]
+fn calls_that_double_too_often_are_too_many_visits(rt: HostRuntime) -> Result<(), Fail> {
+    let input = doubling(rt.alloc(), 24)?;
+    let end = run_in_pieces(rt.alloc(), &["explain"], &input, &[], &[])?;
+    assert_eq!(rt; end.status.code(), 11);
+    assert_eq!(rt; end.out.held(), b"".as_slice());
+    assert_eq!(rt; end.err.held(), b"fffuu: limit visits\n".as_slice());
+    Ok(())
+}

@@ -29,7 +29,7 @@ fn answered<S: Source, O: Sink>(
 ) -> Ending
     ensures unread { result.status ≡ Status.Usage → source.new ≡ source.old }
     ensures kept { (Writes result.status → ⊥) → out.new ≡ out.old }
-    ensures named { (result.asked ≡ asked_in (map string_bytes words.now.items)) ⊎ (result.status ≡ Status.Memory) }
+    ensures named { result.status ≡ Status.NoChain → result.asked ≡ asked_in (map string_bytes words.now.items) }
     ensures ends { Ends (map string_bytes words.now.items)
         (record { left = S.left source.old; read_faults = S.faults source.old; held = O.held out.old; write_faults = O.faults out.old })
         (record { left = S.left source.new; read_faults = S.faults source.new; held = O.held out.new; write_faults = O.faults out.new })
@@ -43,24 +43,23 @@ fn answered<S: Source, O: Sink>(
                 asked: request.chain,
             }
         }
-        Err(fault) => {
-            let status = match fault {
-                SpellFault::Usage => Status::Usage,
-                SpellFault::Memory => Status::Memory,
-            };
-            Ending {
-                status,
-                asked: Bytes::of(Vec::new(alloc)),
-            }
-        }
+        Err(SpellFault::Usage) => Ending {
+            status: Status::Usage,
+            asked: Bytes::of(Vec::new(alloc)),
+        },
+        Err(SpellFault::Memory) => Ending {
+            status: Status::Memory,
+            asked: Bytes::of(Vec::new(alloc)),
+        },
     }
 }
 
 /// Reads the words, then the source to its end, and writes the answer to `out`. A refusal is told in one line on `err`.
 ///
-/// The words are those after the program's name: a mode, `check`, `upper` or `lower`, and perhaps `--chain NAME` and
-/// `--family 4` or `--family 6`. The text has at most 16,777,216 bytes. The answer to `check` is a line of counts of its
-/// filter table, and to `upper` and `lower` a filter of that side, as text.
+/// The words are those after the program's name: a mode, `check`, `upper`, `lower` or `explain`, and perhaps
+/// `--chain NAME` and `--family 4` or `--family 6`. The text has at most 16,777,216 bytes. The answer to `check` is a line of counts of its
+/// filter table, and to `upper` and `lower` a filter of that side, as text. To `explain`, with the fields of a packet,
+/// it is how the packet is accepted and how it is dropped.
 ///
 /// The refusals in their order; each comes only where none before it does:
 /// - `Usage` exactly where the words spell no request. The source stays unread.
@@ -74,7 +73,7 @@ fn answered<S: Source, O: Sink>(
 /// - `CallLoop` exactly where that is the first declared chain in reach that calls itself over some path.
 /// - `Limit` exactly where the number of that kind is past its limit, and no kind before it is: the chains on a call path for
 ///   all modes, then for a filter the items of the rewritten tree, the literals of its flat list, the longest list of cubes,
-///   the simple rules and the printed lines.
+///   the simple rules and the printed lines, and for an explanation the visits of rules.
 /// - `WriteFault` only where the count of `out` rose. Less than the whole answer went out.
 ///
 /// `Memory` may stand in place of each. After a refusal other than `WriteFault` nothing went out.

@@ -4,8 +4,7 @@ use Rattle.std.specs.List.{list_all, slice_split}
 use Rattle.clap.specs.Words.{Text}
 use Rattle.clap.proofs.OnLiterals.{clap_on_literals}
 use Rattle.request.specs.CommandLine.{fffuu, faults_in, rows_in}
-use Rattle.request.specs.Requests.{Parts, asked_by, parts_in, spelled_by}
-use Rattle.request.specs.declared.types.Mode.TheVariants as mode
+use Rattle.request.specs.Requests.{Parts, parts_in}
 
 -- words with single spaces between them
 abbrev typed : Text → List Text
@@ -77,18 +76,3 @@ options :
     × (parts_in (typed (codes "explain a=1 --family 6 b=2")) ≡ Some (record { mode = Some (codes "explain"); args = codes "a=1" ∷ codes "b=2" ∷ []; chain = None; family = Some (codes "6"); side = None }))
 unfolding fffuu faults_in rows_in parts_in clap_on_literals
 options = (refl, refl, refl, refl, refl, refl, refl)
-
-request_of_both_options : spelled_by (typed (codes "--chain A check --family=6")) ≡ Some (record { mode = mode.Check; chain = codes "A"; six = true })
-unfolding fffuu faults_in rows_in parts_in asked_by spelled_by clap_on_literals
-request_of_both_options = refl
-
-request_without_options : spelled_by (typed (codes "-- upper")) ≡ Some (record { mode = mode.Upper; chain = codes "FORWARD"; six = false })
-unfolding fffuu faults_in rows_in parts_in asked_by spelled_by clap_on_literals
-request_without_options = refl
-
--- no request: an argument, a side, a family of another name, a mode of another name
-no_requests : list_all (λ line. not (is_some (spelled_by (typed line)))) (codes "check x" ∷ codes "upper " ∷ codes "upper -"
-    ∷ codes "upper --side lower" ∷ codes "check --side upper" ∷ codes "check --side=" ∷ codes "check --family 5" ∷ codes "check --family="
-    ∷ codes "help" ∷ codes "-- --chain X" ∷ codes " x" ∷ codes "Check" ∷ []) ≡ true
-unfolding fffuu faults_in rows_in parts_in asked_by spelled_by clap_on_literals
-no_requests = refl

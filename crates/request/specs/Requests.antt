@@ -1,8 +1,10 @@
 -- Which words spell which request.
-use Rattle.std.specs.Prelude.{◌≡◌, ◌||◌, ◌==◌, List, [], ◌∷◌, Option, Some, None, Bool, true, false, not, is_some, unwrap_or, codes, if◌then◌else◌, option_and_then, option_map, length}
+use Rattle.std.specs.Prelude.{ℕ, ◌≡◌, List, [], ◌∷◌, Option, Some, None, Bool, true, false, unwrap_or, codes, if◌then◌else◌, option_map}
 use Rattle.std.specs.Str.{bytes_eq}
 use Rattle.clap.specs.Words.{Row, Text, Kinds, all_of, first_of}
+use Rattle.primitives.specs.Holds.{IsValid}
 use Rattle.request.specs.CommandLine.{faults_in, rows_in}
+use Rattle.request.specs.Fields.{IsAsked}
 use Rattle.request.specs.declared.types.Mode.{Mode}
 use Rattle.request.specs.declared.types.Mode.TheVariants as mode
 use Rattle.request.specs.declared.types.Request.{Request}
@@ -24,17 +26,23 @@ parts_of rows = record {
   side = first_of (codes "side") rows;
 }
 
--- a mode that takes no arguments and no side
-abbrev pub alone_of : Mode → Parts → Option Mode
-alone_of mode parts = if is_some parts.side || not (length parts.args == 0) then None else Some mode
+-- the word of a mode
+abbrev pub word_of : Mode → Text
+word_of mode.Check = codes "check"
+word_of mode.Upper = codes "upper"
+word_of mode.Lower = codes "lower"
+word_of (mode.Explain p) = codes "explain"
 
--- the mode of this name with its arguments, a row for each mode
-abbrev pub mode_of : Text → Parts → Option Mode
-mode_of name parts =
-    if bytes_eq name (codes "check") then alone_of mode.Check parts
-    else if bytes_eq name (codes "upper") then alone_of mode.Upper parts
-    else if bytes_eq name (codes "lower") then alone_of mode.Lower parts
-    else None
+-- no arguments and no side
+abbrev pub StandsAlone : Parts → Type 0
+StandsAlone parts = (parts.args ≡ []) × (parts.side ≡ None)
+
+-- what else a mode wants of the parts, over IPv6 addresses where the first argument is true and over IPv4 ones else
+abbrev pub Suits : Bool → Parts → Mode → Type 0
+Suits six parts mode.Check = StandsAlone parts
+Suits six parts mode.Upper = StandsAlone parts
+Suits six parts mode.Lower = StandsAlone parts
+Suits six parts (mode.Explain p) = (parts.side ≡ None) × IsAsked six parts.args p
 
 -- whether addresses are IPv6 ones, by the family's text: IPv4 ones where none is given
 abbrev pub six_of : Option Text → Option Bool
@@ -43,14 +51,16 @@ six_of (Some text) = if bytes_eq text (codes "4") then Some false
     else if bytes_eq text (codes "6") then Some true
     else None
 
--- the request of a mode, of the chain FORWARD where none is given
-abbrev pub request_with : Option Text → Bool → Mode → Request
-request_with chain six mode = record { mode = mode; chain = unwrap_or chain (codes "FORWARD"); six = six }
+-- the name of the asked chain: FORWARD where none is given
+abbrev pub chain_of : Parts → Text
+chain_of parts = unwrap_or parts.chain (codes "FORWARD")
 
--- the request that the parts are
-unfoldable pub asked_by : Parts → Option Request
-asked_by parts = option_and_then (λ name. option_and_then (λ mode. option_map (λ six. request_with parts.chain six mode) (six_of parts.family))
-    (mode_of name parts)) parts.mode
+-- the parts are this request
+pub record Asks (parts : Parts) (request : Request) : Type 0 where
+  pub word : parts.mode ≡ Some (word_of request.mode)
+  pub family : six_of parts.family ≡ Some request.six
+  pub chain : request.chain ≡ chain_of parts
+  pub rest : Suits request.six parts request.mode
 
 -- the parts, where clap finds no fault
 abbrev pub without_faults : Kinds → Parts → Option Parts
@@ -61,13 +71,24 @@ without_faults (k ∷ ks) parts = None
 unfoldable pub parts_in : List Text → Option Parts
 parts_in words = without_faults (faults_in words) (parts_of (rows_in words))
 
--- the request of the words: clap takes them, and their parts are a request
-unfoldable pub spelled_by : List Text → Option Request
-spelled_by words = option_and_then asked_by (parts_in words)
-
-abbrev pub Spells : List Text → Request → Type 0
-Spells words request = spelled_by words ≡ Some request
+-- the request of the words: clap takes them, and their parts are the request
+unfoldable pub Spells : List Text → Request → Type 0
+Spells words request = (parts : Parts) × (parts_in words ≡ Some parts) × Asks parts request
 
 -- the words spell at most one request
 abbrev pub SpellsOnce : List Text → Type 0
 SpellsOnce words = (r s : Request) → Spells words r → Spells words s → r ≡ s
+
+-- the name of the chain that words ask about, the empty one where clap finds a fault
+abbrev pub chain_in : List Text → Text
+chain_in words = unwrap_or (option_map chain_of (parts_in words)) []
+
+-- the bits of an address
+abbrev pub width_of : Bool → ℕ
+width_of false = 32
+width_of true = 128
+
+-- a mode's packet is one of the family's addresses
+abbrev pub HasValidPacket : Bool → Mode → Type 0
+HasValidPacket six (mode.Explain p) = IsValid (width_of six) p
+HasValidPacket six m = Unit {0}

@@ -2,8 +2,11 @@
 #![tactic(auto)]
 
 mod command;
+mod fields;
 mod laws;
 mod line;
+mod names;
+mod packets;
 mod spelling;
 mod types;
 

@@ -1,9 +1,13 @@
-ghost use Rattle.std.specs.Prelude.{◌≡◌, [], IfOk, map, option_map, unwrap_or};
+ghost use Rattle.std.specs.Prelude.{◌≡◌, [], IfOk, IsErrOf, OnErr, map, option_map, unwrap_or};
 ghost use Rattle.clap.specs.Words.{found_of, rows_of};
-ghost use Rattle.request.specs.Requests.{alone_of, mode_of, parts_of, six_of};
+ghost use Rattle.primitives.specs.declared.prim.Packet.{Packet as Asked};
+ghost use Rattle.request.specs.declared.types.Mode.{Mode as AnyMode};
+ghost use Rattle.request.specs.declared.types.Mode.TheVariants as mode;
+ghost use Rattle.request.specs.Requests.{HasValidPacket, StandsAlone, Suits, parts_of, six_of, word_of};
 ghost use Rattle.request.specs.Lines.{line_parts};
 
-use crate::Mode;
+use crate::packets::packet_of;
+use crate::{Mode, SpellFault};
 use clap::ArgMatches;
 use std::alloc::{AllocError, Global};
 
@@ -45,19 +49,38 @@ pub fn line_of<'a>(alloc: Global, matches: &ArgMatches<'a>) -> Result<Line<'a>, 
 }
 
 // The mode alone, where neither arguments nor a side are given.
-fn alone(mode: Mode, line: &Line<'_>) -> Option<Mode>
-    ensures { result ≡ alone_of mode (line_parts line.now) }
+fn alone(mode: Mode, line: &Line<'_>) -> Result<Mode, SpellFault>
+    ensures ok { IfOk result (λ m. (m ≡ mode) × StandsAlone (line_parts line.now)) }
+    ensures usage { OnErr result (StandsAlone (line_parts line.now) → ⊥) }
 {
     if line.side.is_some() || !line.args.is_empty() {
-        None
+        Err(SpellFault::Usage)
     } else {
-        Some(mode)
+        Ok(mode)
     }
 }
 
-/// The mode of this name, with the arguments of the line. `None` where there is no such mode or the arguments aren't its own.
-pub fn mode(name: &str, line: &Line<'_>) -> Option<Mode>
-    ensures { result ≡ mode_of name.now (line_parts line.now) }
+// The packet of the arguments, where no side is given.
+fn explain(alloc: Global, six: bool, line: &Line<'_>) -> Result<Mode, SpellFault>
+    ensures ok { IfOk result (λ m. (p : Asked) × (m ≡ mode.Explain p) × Suits six (line_parts line.now) m × HasValidPacket six m) }
+    ensures usage { IsErrOf result SpellFault.Usage → (p : Asked) → Suits six (line_parts line.now) (mode.Explain p) → ⊥ }
+{
+    if line.side.is_some() {
+        return Err(SpellFault::Usage);
+    }
+    Ok(Mode::Explain(packet_of(alloc, six, &line.args)?))
+}
+
+/// The mode of this name, with the arguments of the line, over IPv6 addresses where `six` is true.
+///
+/// # Errors
+///
+/// `Usage` exactly where there is no such mode or the arguments aren't its own, or `Memory`.
+pub fn mode(alloc: Global, name: &str, six: bool, line: &Line<'_>) -> Result<Mode, SpellFault>
+    ensures word { IfOk result (λ m. name.now ≡ word_of m) }
+    ensures suits { IfOk result (Suits six (line_parts line.now)) }
+    ensures valid { IfOk result (HasValidPacket six) }
+    ensures usage { IsErrOf result SpellFault.Usage → (m : AnyMode) → name.now ≡ word_of m → Suits six (line_parts line.now) m → ⊥ }
 {
     if name == "check" {
         alone(Mode::Check, line)
@@ -65,8 +88,10 @@ pub fn mode(name: &str, line: &Line<'_>) -> Option<Mode>
         alone(Mode::Upper, line)
     } else if name == "lower" {
         alone(Mode::Lower, line)
+    } else if name == "explain" {
+        explain(alloc, six, line)
     } else {
-        None
+        Err(SpellFault::Usage)
     }
 }
 

@@ -1,5 +1,5 @@
-ghost use Rattle.std.specs.Prelude.{◌≡◌, IfOk, IsErrOf, Some, None, map, string_bytes};
-ghost use Rattle.request.specs.Requests.{Spells, asked_by};
+ghost use Rattle.std.specs.Prelude.{◌≡◌, IfOk, IsErrOf, map, string_bytes};
+ghost use Rattle.request.specs.Requests.{Asks, HasValidPacket, Spells, chain_in};
 ghost use Rattle.request.specs.Lines.{line_parts};
 ghost use Rattle.request.specs.declared.types.Request.{Request as Asked};
 
@@ -10,20 +10,18 @@ use match_expr::Bytes;
 use std::alloc::Global;
 
 // The request that the parts of a command line are.
-#[tactic(auto, unfolding(crate::specs::Requests::asked_by))]
 fn request_of(alloc: Global, line: &Line<'_>) -> Result<Request, SpellFault>
-    ensures ok { IfOk result (λ r. asked_by (line_parts line.now) ≡ Some r) }
-    ensures usage { IsErrOf result SpellFault.Usage → asked_by (line_parts line.now) ≡ None }
+    ensures ok { IfOk result (Asks (line_parts line.now)) }
+    ensures valid { IfOk result (λ r. HasValidPacket r.six r.mode) }
+    ensures usage { IsErrOf result SpellFault.Usage → (r : Asked) → Asks (line_parts line.now) r → ⊥ }
 {
     let Some(name) = line.mode else {
-        return Err(SpellFault::Usage);
-    };
-    let Some(mode) = mode(name, line) else {
         return Err(SpellFault::Usage);
     };
     let Some(six) = is_six(line.family) else {
         return Err(SpellFault::Usage);
     };
+    let mode = mode(alloc, name, six, line)?;
     let chain = match line.chain {
         Some(chain) => chain,
         None => "FORWARD",
@@ -41,9 +39,11 @@ fn request_of(alloc: Global, line: &Line<'_>) -> Result<Request, SpellFault>
 /// # Errors
 ///
 /// `Usage` exactly where the words spell no request, or `Memory`.
-#[tactic(auto, unfolding(crate::specs::Requests::spelled_by, crate::specs::Requests::parts_in))]
+#[tactic(auto, unfolding(crate::specs::Requests::Spells, crate::specs::Requests::parts_in))]
 pub fn spell(alloc: Global, words: &Vec<String>) -> Result<Request, SpellFault>
     ensures ok { IfOk result (λ r. Spells (map string_bytes words.now.items) r) }
+    ensures chain { IfOk result (λ r. r.chain ≡ chain_in (map string_bytes words.now.items)) }
+    ensures valid { IfOk result (λ r. HasValidPacket r.six r.mode) }
     ensures usage { IsErrOf result SpellFault.Usage → (r : Asked) → Spells (map string_bytes words.now.items) r → ⊥ }
 {
     let matches = matches_in(alloc, words.as_slice())?;

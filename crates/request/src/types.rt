@@ -2,11 +2,12 @@ ghost use Rattle.std.specs.Prelude.{◌≡◌};
 ghost use Rattle.request.specs.declared.types.SpellFault.TheVariants.{Memory};
 
 use match_expr::Bytes;
+use primitives::Packet;
 use std::alloc::AllocError;
 use thiserror::Error;
 
 /// What is asked of a filter.
-#[derive(Clone, Copy, Debug, PartialEq, Eq)]
+#[derive(Drop)]
 pub enum Mode {
     /// Whether the calls of a chain end, and how large the table is.
     Check,
@@ -14,10 +15,12 @@ pub enum Mode {
     Upper,
     /// A filter that accepts what a chain must accept.
     Lower,
+    /// For this packet the meanings of two walks of a chain, one that accepts it and one that drops it.
+    Explain(Packet),
 }
 
 /// What a command line asks for.
-#[derive(Debug, Drop)]
+#[derive(Drop)]
 pub struct Request {
     /// What is asked, with its arguments.
     pub mode: Mode,

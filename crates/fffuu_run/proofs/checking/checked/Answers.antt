@@ -4,7 +4,7 @@ use Rattle.fffuu_run.proofs.checking.checked.Goals as goal
 
 pub returns-in-Ok-clause-ok : goal.returns-in-Ok-clause-ok
 returns-in-Ok-clause-ok g c =
-    is_checked c.args.dump.now c.args.name.now c.in-Some.chain c.in-Ok.field-0 (sym c.asked.ensures ∙ c.in-Some.is) c.in-Ok.ensures.settled c.in-Ok.ensures.ranked
+    is_checked c.args.dump.now c.args.name.now c.in-Some.chain c.in-Ok.ranked (sym c.asked.ensures ∙ c.in-Some.is) c.in-Ok.ensures.settled c.in-Ok.ensures.ranked
 
 pub name_of-requires : goal.name_of-requires
 name_of-requires g c =
