@@ -1,5 +1,5 @@
 -- A text has one cause of refusal at most, and none where it has an answer.
-use Rattle.std.proofs.Common.{◌≡◌, ◌∙◌, ◌≤◌, ℕ, List, Bool, true, false, Option, Some, None, refl, inl, inr, arith, ap, sym, subst}
+use Rattle.std.proofs.Common.{◌≡◌, ◌≤◌, ℕ, List, Bool, true, false, refl, inl, inr, arith, ap, subst}
 use Rattle.primitives.specs.declared.prim.Prim_.{Prim_}
 use Rattle.addr_text.specs.Grammar.{IsIpv4, IsIpv6}
 use Rattle.addr_text.specs.Ipv4Laws.{ipv4_one, ipv4_plain, ipv4_not_number}

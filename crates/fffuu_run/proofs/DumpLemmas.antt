@@ -22,7 +22,7 @@ use Rattle.dump_grammar.specs.Tables.{DumpTable, Placed, AreRuleLines, lines_of,
 use Rattle.dump_grammar.specs.Reads.{IsDump, dump_of, is_in, rule_of}
 
 -- an element of a list is the first one or one after it
-contains_cons : {X : Type 0} (z : X) (zs : List X) (x : X) → Contains (z ∷ zs) x → (z ≡ x) ⊎ Contains zs x
+pub contains_cons : {X : Type 0} (z : X) (zs : List X) (x : X) → Contains (z ∷ zs) x → (z ≡ x) ⊎ Contains zs x
 contains_cons z zs x (zero, below, is) = inl is
 contains_cons z zs x (suc k, below, is) = inr (k, omega arith, is)
 
@@ -32,7 +32,7 @@ contains_here z zs = (0, omega arith, refl)
 contains_there : {X : Type 0} (z : X) (zs : List X) (x : X) → Contains zs x → Contains (z ∷ zs) x
 contains_there z zs x (k, below, is) = (suc k, omega arith, is)
 
-contains_none : {X : Type 0} (x : X) → Contains [] x → ⊥
+pub contains_none : {X : Type 0} (x : X) → Contains [] x → ⊥
 contains_none x (k, below, is) = omega arith
 
 map_from : {X Y : Type 0} (f : X → Y) (xs : List X) (y : Y) → Contains (map f xs) y → (x : X) × Contains xs x × (f x ≡ y)
@@ -53,7 +53,7 @@ filter_from p (y ∷ ys) x h = elim (kept (p y) y x (filter p ys) h) [
   | inr later ↦ contains_there y ys x (filter_from p ys x later)
 ]
 
-mapped : {X Y : Type 0} (f : X → Y) (o : Option X) (y : Y) → option_map f o ≡ Some y → (x : X) × (o ≡ Some x) × (f x ≡ y)
+pub mapped : {X Y : Type 0} (f : X → Y) (o : Option X) (y : Y) → option_map f o ≡ Some y → (x : X) × (o ≡ Some x) × (f x ≡ y)
 mapped f (Some x) y is = (x, refl, cc)
 mapped f None y is = absurd (cc)
 

@@ -1,17 +1,17 @@
 -- A chain is refused a filter for one cause at most, and not where it has one.
-use Rattle.std.proofs.Common.{◌≡◌, ◌∙◌, ◌<◌, ◌≤◌, ◌⊎◌, ℕ, List, Option, Some, None, refl, inl, inr, arith, ap, sym, subst}
+use Rattle.std.proofs.Common.{◌≡◌, ◌∙◌, ◌≤◌, ◌⊎◌, ℕ, List, Some, refl, inl, inr, arith, ap, sym, subst}
 use Rattle.primitives.specs.declared.prim.Prim_.{Prim_}
 use Rattle.fw_rule.specs.declared.rule.Dump.{Dump}
 use Rattle.fw_rule.specs.declared.rule.Verdict.{Verdict}
 use Rattle.closure.specs.declared.sides.Side.{Side}
 use Rattle.chain_graph.specs.Faults.{NoneUnsupported, NoLoop}
 use Rattle.chain_graph.specs.Paths.{HasPath}
-use Rattle.simple_filter.specs.Closed.{HasCalls, IsSmall, IsSmallTree, Passes}
+use Rattle.simple_filter.specs.Closed.{HasCalls, IsSmall}
 use Rattle.simple_filter.specs.declared.refusal.Kind.{Kind}
 use Rattle.simple_filter.specs.declared.refusal.Kind.TheVariants as kind
 use Rattle.dump_print.specs.Printed.{count_lines}
 use Rattle.fffuu_run.specs.Checks.{RefusesChain, asked_chain}
-use Rattle.fffuu_run.specs.Filters.{HasManyLines, IsFilterText, RefusesAsked, RefusesNamed, RefusesRules, simple_rules}
+use Rattle.fffuu_run.specs.Filters.{IsFilterText, RefusesAsked, RefusesNamed, RefusesRules, simple_rules}
 use Rattle.fffuu_run.specs.declared.status.Status.{Status}
 use Rattle.fffuu_run.specs.declared.status.Status.TheVariants as status
 use Rattle.fffuu_run.proofs.ChainCauses.{OneRule, none_or_some, one_chain, one_some, unsupported}

@@ -5,5 +5,7 @@ pub mod ChainCauses
 pub mod VisitLemmas
 pub mod FilterCauses
 pub mod FilterLemmas
+pub mod NameLemmas
+pub mod HeadlineLemmas
 pub mod Causes
 pub mod Cases

@@ -1,26 +1,20 @@
 -- The upper and the lower filter of a text: their bytes, and why there are none.
-use Rattle.std.specs.Prelude.{ℕ, ◌≡◌, ◌<◌, ◌≤◌, ◌⊎◌, List, None, Some, slice_get}
+use Rattle.std.specs.Prelude.{ℕ, ◌≡◌, ◌<◌, ◌≤◌, ◌⊎◌, List, None, Some}
 use Rattle.primitives.specs.declared.prim.Prim_.{Prim_}
-use Rattle.fw_rule.specs.declared.rule.Chain.{Chain}
 use Rattle.fw_rule.specs.declared.rule.Dump.{Dump}
 use Rattle.fw_rule.specs.declared.rule.Verdict.{Verdict}
 use Rattle.closure.specs.declared.sides.Side.{Side}
 use Rattle.box_norm.specs.declared.cube.SimpleRule.{SimpleRule}
 use Rattle.box_norm.specs.Normal.{normal_of}
 use Rattle.simple_filter.specs.Closed.{HasCalls, IsSmall, Passes, Refuses as RefusesClosed, flat_rules}
-use Rattle.simple_filter.specs.declared.refusal.Kind.{Kind}
 use Rattle.simple_filter.specs.declared.refusal.Kind.TheVariants as kind
 use Rattle.simple_filter.specs.declared.refusal.Refusal.TheVariants as refusal
 use Rattle.dump_grammar.specs.Reads.{IsDump}
 use Rattle.dump_print.specs.Printed.{count_lines, printed}
 use Rattle.fffuu_run.specs.Checks.{IsNameOf, RefusesText, asked_chain}
+use Rattle.fffuu_run.specs.Headline.{IsChain, IsFilterOf}
 use Rattle.fffuu_run.specs.declared.status.Status.{Status}
 use Rattle.fffuu_run.specs.declared.status.Status.TheVariants as status
-
--- the chain of this number has this name and this policy
-abbrev pub IsChain : {P : Type 0} → Dump P → ℕ → List ℕ → Verdict → Type 0
-IsChain {P} dump chain name policy =
-    (here : Chain P) × (slice_get dump.chains chain ≡ Some here) × (here.name ≡ name) × (here.policy ≡ Some policy)
 
 module _ {W : ℕ} where
   -- the simple rules of a chain, of one side
@@ -66,7 +60,7 @@ module _ (W : ℕ) (Reads : List ℕ → ℕ → Type 0) (text_of : ℕ → List
   RefusesFilter side name text s =
       RefusesText W Reads text s ⊎ ((dump : Dump (Prim_ W)) × IsDump W Reads text dump × RefusesNamed text_of side dump name s)
 
-  -- the text is a dump with a chain of this name and a policy, and this is the text of its filter
+  -- the text is a dump with a chain of this name and a policy, and this is the text of its filter, which means what the side asks
   pub record Filters (side : Side) (name text written : List ℕ) : Type 0 where
     pub dump : Dump (Prim_ W)
     pub reads : IsDump W Reads text dump
@@ -75,3 +69,4 @@ module _ (W : ℕ) (Reads : List ℕ → ℕ → Type 0) (text_of : ℕ → List
     pub policy : Verdict
     pub chain_is : IsChain dump chain name policy
     pub filter : IsFilterText text_of side dump chain name policy written
+    pub means : IsFilterOf W Reads side dump chain name policy written

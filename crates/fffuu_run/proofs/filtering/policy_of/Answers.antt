@@ -1,4 +1,4 @@
-use Rattle.std.proofs.Common.{◌≡◌, ◌∙◌, List, None, Some, ap, sym, get_or, subst}
+use Rattle.std.proofs.Common.{◌≡◌, List, None, Some, get_or, subst}
 use Rattle.fw_rule.specs.declared.rule.Chain.{Chain}
 use Rattle.fffuu_run.proofs.FilterLemmas.{chain_is, has_policy}
 use Rattle.fffuu_run.proofs.filtering.policy_of.Goals as goal

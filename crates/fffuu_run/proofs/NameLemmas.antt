@@ -1,0 +1,82 @@
+-- The names in the rules of a closed chain can be printed, since those of its dump can.
+use Rattle.std.proofs.Common.{◌≡◌, ◌++◌, ◌⊎◌, ℕ, zero, suc, List, [], ◌∷◌, All, Contains, refl, inl, inr, arith, ap, sym, subst}
+use Rattle.std.specs.List.{AllByRecursion}
+use Rattle.std.proofs.lemmas.List.Elements.{All-contains, All-from_recursion}
+use Rattle.match_expr.specs.declared.expr.Expr.{Expr}
+use Rattle.match_expr.specs.declared.expr.Expr.TheOpen.{Expr-F}
+use Rattle.match_expr.specs.declared.expr.Expr.TheFolds.{fold-Expr}
+use Rattle.name_set.specs.declared.pattern.Pattern.{Pattern}
+use Rattle.name_set.specs.declared.set.NameSet.{NameSet}
+use Rattle.primitives.specs.declared.prim.Prim_.{Prim_}
+use Rattle.fw_rule.specs.declared.rule.Lit.{Lit}
+use Rattle.fw_rule.specs.declared.rule.Rule.{Rule}
+use Rattle.fw_rule.specs.declared.rule.Chain.{Chain}
+use Rattle.fw_rule.specs.declared.rule.Dump.{Dump}
+use Rattle.closure.specs.Sources.{IsKnown, joined as joined_lists, listed, primitives_in}
+use Rattle.box_norm.specs.declared.cube.Cube.{Cube}
+use Rattle.box_norm.specs.declared.cube.SimpleRule.{SimpleRule}
+use Rattle.box_norm.specs.Regular.{EachCube, patterns_in}
+use Rattle.simple_filter.specs.Closed.{IsKnownPattern, NamesAreKnown, NamesKnown}
+use Rattle.dump_grammar.specs.Printable.{HasPrintable, IsPrintable, IsPrintableLiteral, joined, tests_in, tests_of}
+use Rattle.dump_read.specs.Answers.{IsPrintableDump}
+use Rattle.printed_text.specs.Names.{ArePrintableNames, HasPrintableNames}
+use Rattle.fw_rule.proofs.Ends.{contains_at}
+use Rattle.fffuu_run.proofs.DumpLemmas.{contains_none}
+
+same_joined : {P : Type 0} (lists : List (List P)) → joined_lists lists ≡ joined lists
+same_joined [] = refl
+same_joined (xs ∷ lists) = ap (λ rest. xs ++ rest) (same_joined lists)
+
+same_level : {P : Type 0} (x : Expr-F P (List P)) → listed x ≡ tests_of x
+same_level (Expr-F.All parts) = same_joined parts
+same_level (Expr-F.Not part) = refl
+same_level (Expr-F.Prim x) = refl
+
+-- the primitives of an expression are its tests
+same_tests : {P : Type 0} (e : Expr P) → primitives_in e ≡ tests_in e
+same_tests {P} e =
+    let levels : listed {P = P} ≡ tests_of = λ i x. same_level x i in
+    ap (λ (level : Expr-F P (List P) → List P). fold-Expr P (List P) level e) levels
+
+each_weaker : {X : Type 0} (Q R : X → Type 0) → ((x : X) → Q x → R x) → (xs : List X) → AllByRecursion Q xs → AllByRecursion R xs
+each_weaker Q R f [] each = tt
+each_weaker Q R f (x ∷ xs) each = (f x each.0, each_weaker Q R f xs each.1)
+
+of_one : (own pattern : Pattern) → IsPrintable own → Contains (own ∷ []) pattern → IsPrintable pattern
+of_one own pattern h (zero, below, is) = subst IsPrintable is h
+of_one own pattern h (suc k, below, is) = absurd (omega arith)
+
+module _ {W : ℕ} where
+  of_test : (x : Prim_ W) (pattern : Pattern) → HasPrintable x → Contains (patterns_in x) pattern → IsPrintable pattern
+  of_test (Prim_.InName own) pattern h there = of_one own pattern h there
+  of_test (Prim_.OutName own) pattern h there = of_one own pattern h there
+  of_test x pattern h there = absurd (contains_none pattern there)
+
+  module _ (dump : Dump (Prim_ W)) (chain : ℕ) (printable : IsPrintableDump dump) where
+    known_printable : (x : Prim_ W) → IsKnown dump chain x → HasPrintable x
+    known_printable x (c, rule, neg, expr, reach, (here, at, inside), literal, among) =
+        let rules = All-contains (λ (h : Chain (Prim_ W)). All (λ (r : Rule (Prim_ W)). AllByRecursion IsPrintableLiteral r.lits) h.rules) dump.chains here printable (contains_at dump.chains c here at) in
+        let literals = All-contains (λ (r : Rule (Prim_ W)). AllByRecursion IsPrintableLiteral r.lits) here.rules rule rules inside in
+        let tests = All-contains IsPrintableLiteral rule.lits (Lit.Known neg expr) (All-from_recursion IsPrintableLiteral rule.lits literals) literal in
+        All-contains HasPrintable (tests_in expr) x (All-from_recursion HasPrintable (tests_in expr) tests) (subst (λ (xs : List (Prim_ W)). Contains xs x) (same_tests expr) among)
+
+    pattern_printable : (pattern : Pattern) → IsKnownPattern dump chain pattern → IsPrintable pattern
+    pattern_printable pattern (x, known, there) = of_test x pattern (known_printable x known) there
+
+    base_printable : (base : Pattern) → (base ≡ Pattern.Prefix []) ⊎ IsKnownPattern dump chain base → IsPrintable base
+    base_printable base (inl every) = subst IsPrintable (sym every) (omega arith, tt)
+    base_printable base (inr known) = pattern_printable base known
+
+    names_printable : (s : NameSet) → NamesKnown dump chain s → ArePrintableNames s
+    names_printable s known = record {
+      base = base_printable s.base known.base;
+      excluded = each_weaker (IsKnownPattern dump chain) IsPrintable pattern_printable s.excluded known.excluded;
+    }
+
+    cube_printable : (cube : Cube W) → NamesAreKnown dump chain cube → HasPrintableNames cube
+    cube_printable cube known = record { in_name = names_printable cube.in_name known.in_name; out_name = names_printable cube.out_name known.out_name }
+
+    pub rules_printable : (rules : List (SimpleRule W)) → EachCube (NamesAreKnown dump chain) rules → EachCube HasPrintableNames rules
+    rules_printable rules known =
+        each_weaker (λ (rule : SimpleRule W). NamesAreKnown dump chain rule.cube) (λ (rule : SimpleRule W). HasPrintableNames rule.cube)
+        (λ (rule : SimpleRule W) h. cube_printable rule.cube h) rules known
