@@ -1,7 +1,0 @@
-pub mod Form
-pub mod Meaning
-pub mod Printed
-pub mod Outside
-pub mod Upper
-pub mod Pieces
-pub mod Laws
