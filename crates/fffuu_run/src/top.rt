@@ -58,8 +58,9 @@ fn answered<S: Source, O: Sink>(
 ///
 /// The words are those after the program's name: a mode, `check`, `upper`, `lower` or `explain`, and perhaps
 /// `--chain NAME` and `--family 4` or `--family 6`. The text has at most 16,777,216 bytes. The answer to `check` is a line of counts of its
-/// filter table, and to `upper` and `lower` a filter of that side, as text. To `explain`, with the fields of a packet,
-/// it is how the packet is accepted and how it is dropped.
+/// filter table. To `upper` it is the text of a filter that accepts exactly the valid packets that some truth of the unknown
+/// matches lets the asked chain accept, and to `lower` one that accepts exactly those that every such truth does. To
+/// `explain`, with the fields of a packet, it is how the packet is accepted and how it is dropped.
 ///
 /// The refusals in their order; each comes only where none before it does:
 /// - `Usage` exactly where the words spell no request. The source stays unread.
