@@ -60,7 +60,13 @@ def long(share):
     return wrapped(line * int(min(131_072, MOST // len(line)) * share))
 
 
+def outside(share):
+    return wrapped(b"-A FORWARD ! -s 10.0.0.0/8 -j ACCEPT\n" * int(131_072 * share))
+
+
 measure([
+    ("accepts of everything, 131,072 of them", "upper", lambda share: wrapped(b"-A FORWARD -j ACCEPT\n" * int(131_072 * share))),
+    ("two lines each, 262,144 in the end", "upper", outside),
     ("prefix rules, 131,072 of them", "upper", lambda share: many(int(131_072 * share), prefix)),
     ("the same", "lower", lambda share: many(int(131_072 * share), prefix)),
     ("rules of six matches, 131,072 of them", "upper", lambda share: many(int(131_072 * share), five)),

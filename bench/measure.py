@@ -18,12 +18,10 @@ def timed(program, words, text):
     with tempfile.TemporaryFile() as given:
         given.write(text)
         given.seek(0)
-        began = os.times()
-        child = subprocess.Popen([program, *words], stdin=given, stdout=subprocess.DEVNULL, stderr=subprocess.DEVNULL)
-        _, status, usage = os.wait4(child.pid, 0)
-        child.returncode = os.waitstatus_to_exitcode(status)
-        ended = os.times()
-    return child.returncode, ended.elapsed - began.elapsed, usage.ru_maxrss / 1024
+        timer = ["/usr/bin/time", "-q", "-f", "%e %M"]
+        done = subprocess.run([*timer, program, *words], stdin=given, stdout=subprocess.DEVNULL, stderr=subprocess.PIPE)
+    seconds, memory = done.stderr.split()[-2:]
+    return done.returncode, float(seconds), int(memory) / 1024
 
 
 def measure(families):
