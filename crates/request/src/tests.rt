@@ -56,7 +56,8 @@ fn other_words_are_refused(rt: HostRuntime) -> Result<(), Fail> {
 // The packet that these words ask about.
 fn packet(alloc: Global, texts: &[&str]) -> Result<Packet, SpellFault> {
     let words = words_of(alloc, texts)?;
-    match spell(alloc, &words)?.mode {
+    let Request { mode, .. } = spell(alloc, &words)?;
+    match mode {
         Mode::Explain(packet) => Ok(packet),
         _ => Err(SpellFault::Usage),
     }
