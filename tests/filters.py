@@ -13,7 +13,7 @@ import walker
 
 NAMES = ["", "eth0", "eth1", "eth10", "lo", "ppp0", "a b", "br-lan"]
 PATTERNS = ["eth0", "eth+", "eth1+", "lo", "+", '"a b"', "br-+"]
-UNKNOWN = ["-m limit --limit 5/sec", "-m recent --rcheck", "-m addrtype --dst-type LOCAL", "-m socket", "-m mark ! --mark 0x1"]
+UNKNOWN = ["-m limit --limit 5/sec", "-m recent --rcheck", "-m addrtype --dst-type LOCAL", "-m socket", "-m mark ! --mark 0x1", "-m comment ! --comment x"]
 PORT_WORDS = ["22", "1024:65535", "0:21", "53", "80", "65535"]
 LISTS = ["80,443", "22,25,80:90", "0:9,11:19,21:29", "53", "1,3,5,7,9,11,13,15,17,19,21,23,25,27,29"]
 PORTS = [0, 1, 10, 20, 21, 22, 23, 25, 53, 80, 85, 90, 443, 1024, 65535]

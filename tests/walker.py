@@ -130,6 +130,8 @@ def literals_of(words):
                     count += 1
             arguments = [text for text, _ in words[at:at + count]]
             test = module_test(module, option, arguments, number)
+            if negated and option == "--comment":
+                test = None
             found.append((negated and test is not None, test))
         at += len(arguments)
     return found
