@@ -15,8 +15,9 @@ use box_norm::SimpleRule;
 use dump_print::{ports_are_kept, words_are_kept};
 use fw_rule::Verdict;
 
-/// That the text of printed rules is the dump that `printed_dump` says, whatever stands in their cubes. The chain is one of
-/// INPUT, FORWARD and OUTPUT. The call itself does nothing.
+/// That the text of printed rules is the dump that `printed_dump` says. The chain is one of INPUT, FORWARD and OUTPUT; the
+/// cubes are regular, of the five states, with sets that are sets, and with names of interfaces that a line can say, as the
+/// normal form makes them of a dump that was read. The call itself does nothing.
 pub fn is_read_back<F: Family<W>, const W: u32>(
     chain: &[u8],
     policy: Verdict,
