@@ -140,7 +140,10 @@ def disagreements(program, rng, family):
             yield f"{mode}: its answer is checked as {count}\n{out}"
         if list(printed)[0] != "FORWARD" or printed["FORWARD"][0] != chains["FORWARD"][0]:
             yield f"{mode}: another chain or policy\n{given}\n{out}"
+        again = walker.dump(asked(program, [mode], family, out)[1])
         for p in packets:
+            if walker.verdicts(again, "FORWARD", p) != walker.verdicts(printed, "FORWARD", p):
+                yield f"{mode} of its own answer for {p}\n{out}"
             if (walker.verdicts(printed, "FORWARD", p) == {"accept"}) != wanted(walker.verdicts(chains, "FORWARD", p)):
                 yield f"{mode} of {p}\n{given}\n{out}"
     for p in packets[:3]:

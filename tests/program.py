@@ -243,6 +243,8 @@ def worked():
     check("a home router by upper", told(run(["upper"], ROUTER)), (0, ROUTER_UPPER, b""))
     for name, (words, text, (status, out, err)) in cases.CASES.items():
         check(name, told(run(words.split(), text.encode())), (status, out.encode(), err.encode()))
+        if out.startswith("*filter"):
+            check(f"{name}, again", told(run(words.split(), out.encode())), (0, out.encode(), b""))
     text = cases.EXPLAIN_TEXT.encode()
     for fields in cases.BAD_FIELDS:
         check(f"no packet: {fields}", told(run(["explain", *fields.split()], text)), (1, b"", cases.USAGE.encode()))
