@@ -241,6 +241,9 @@ COMMIT
 
 def worked():
     check("a home router by upper", told(run(["upper"], ROUTER)), (0, ROUTER_UPPER, b""))
+    for words, wanted in [("in=br0 src=10.0.0.1", b"accept never\ndrop under 0\n"),
+                          ("in=ppp0 proto=icmp", b"accept under 1\nFORWARD 4 > WAN 1 literal 2\ndrop under 0\n")]:
+        check(f"a home router explained: {words}", told(run(["explain", *words.split()], ROUTER)), (0, wanted, b""))
     for name, (words, text, (status, out, err)) in cases.CASES.items():
         check(name, told(run(words.split(), text.encode())), (status, out.encode(), err.encode()))
         if out.startswith("*filter"):
