@@ -39,12 +39,12 @@ def told(done):
     return done.returncode, done.stdout, done.stderr
 
 
-def wrapped(*lines):
-    return ("*filter\n:FORWARD DROP [0:0]\n" + "".join(line + "\n" for line in lines) + "COMMIT\n").encode()
-
-
 def table(*lines):
-    return ("*filter\n" + "".join(line + "\n" for line in lines) + "COMMIT\n").encode()
+    return cases.wrapped(*lines).encode()
+
+
+def wrapped(*lines):
+    return table(":FORWARD DROP [0:0]", *lines)
 
 
 def edges():
