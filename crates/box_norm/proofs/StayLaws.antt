@@ -20,7 +20,8 @@ use Rattle.box_norm.specs.Cubes.{kept, each_piece}
 use Rattle.box_norm.specs.Pieces.{single, flags_where, kept_in, kept_out, cut_pieces, omit_pieces}
 use Rattle.box_norm.specs.Cuts.{Cuts, keep_all, omit_all, cuts_step, cuts_by}
 use Rattle.box_norm.specs.Normal.{whole_of, with_verdict, normal_of}
-use Rattle.box_norm.specs.Regular.{patterns_in, gathered, patterns_step, patterns_of, rule_patterns, IsOf, NamesAreOf, HasStates, EachCube}
+use Rattle.match_expr.specs.Primitives.{joined}
+use Rattle.box_norm.specs.Regular.{patterns_in, patterns_step, patterns_of, rule_patterns, IsOf, NamesAreOf, HasStates, EachCube}
 use Rattle.box_norm.proofs.RegularLaws.{kept_all, all_append}
 
 abbrev pub AllIn : List Pattern → List Pattern → Type 0
@@ -75,11 +76,11 @@ module _ {W : ℕ} (Q : Cube W → Type 0) (ps : List Pattern)
   abbrev Kept : E → Type 0
   Kept e = AllIn ps (patterns_of {W = W} e) → Stays (cuts_by {W = W} e)
 
-  every_stays : (es : List ((e : E) × Kept e)) → AllIn ps (gathered (map (patterns_of {W = W}) (map (λ e. e.0) es))) → AllStay (map (cuts_by {W = W}) (map (λ e. e.0) es))
+  every_stays : (es : List ((e : E) × Kept e)) → AllIn ps (joined (map (patterns_of {W = W}) (map (λ e. e.0) es))) → AllStay (map (cuts_by {W = W}) (map (λ e. e.0) es))
   every_stays [] h = tt
   every_stays (e ∷ es) h = (
-    e.1 (all_left (Contains ps) (patterns_of {W = W} e.0) (gathered (map (patterns_of {W = W}) (map (λ e. e.0) es))) h),
-    every_stays es (all_right (Contains ps) (patterns_of {W = W} e.0) (gathered (map (patterns_of {W = W}) (map (λ e. e.0) es))) h),
+    e.1 (all_left (Contains ps) (patterns_of {W = W} e.0) (joined (map (patterns_of {W = W}) (map (λ e. e.0) es))) h),
+    every_stays es (all_right (Contains ps) (patterns_of {W = W} e.0) (joined (map (patterns_of {W = W}) (map (λ e. e.0) es))) h),
   )
 
   abbrev Layer : Expr-F (Prim_ W) E → Type 0

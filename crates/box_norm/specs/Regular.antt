@@ -7,6 +7,7 @@ use Rattle.match_expr.specs.declared.expr.Expr.{Expr}
 use Rattle.match_expr.specs.declared.expr.Expr.TheOpen.{Expr-F}
 use Rattle.match_expr.specs.declared.expr.Expr.TheFolds.{fold-Expr}
 use Rattle.match_expr.specs.declared.expr.FlatRule.{FlatRule}
+use Rattle.match_expr.specs.Primitives.{joined}
 use Rattle.name_set.specs.declared.pattern.Pattern.{Pattern}
 use Rattle.name_set.specs.declared.set.NameSet.{NameSet}
 use Rattle.primitives.specs.declared.prim.Prim_.{Prim_}
@@ -51,14 +52,9 @@ patterns_in (Prim_.Flags mask comp) = []
 patterns_in (Prim_.State states) = []
 patterns_in Prim_.Always = []
 
--- one list after another
-abbrev pub gathered : List (List Pattern) → List Pattern
-gathered [] = []
-gathered (ps ∷ lists) = ps ++ gathered lists
-
 -- one level, with the patterns of each part in its place
 abbrev pub patterns_step : {W : ℕ} → Expr-F (Prim_ W) (List Pattern) → List Pattern
-patterns_step (Expr-F.All parts) = gathered parts
+patterns_step (Expr-F.All parts) = joined parts
 patterns_step (Expr-F.Not part) = part
 patterns_step (Expr-F.Prim x) = patterns_in x
 

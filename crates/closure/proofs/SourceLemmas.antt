@@ -21,7 +21,8 @@ use Rattle.closure.specs.declared.modes.Row.{Row}
 use Rattle.closure.specs.Rewriting.{Tree, Done, Decide, Leave, Block, kind, items, rules_of, tree}
 use Rattle.closure.specs.Rows.{row_of, shape}
 use Rattle.closure.specs.Flat.{escape, carried, stayed, escapes, flat_of, flat_list}
-use Rattle.closure.specs.Sources.{joined, listed, primitives_in, IsKnown, AreKnown}
+use Rattle.match_expr.specs.Primitives.{joined, listed, primitives_in}
+use Rattle.closure.specs.Sources.{IsKnown, AreKnown}
 use Rattle.closure.proofs.FlatLemmas.{run_kind, calls}
 use Rattle.closure.proofs.RowLemmas.{row_is}
 use Rattle.closure.proofs.Depths.{stands}

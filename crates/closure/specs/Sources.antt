@@ -1,29 +1,13 @@
 -- Where the primitives of a flat list come from.
-use Rattle.std.specs.Prelude.{ℕ, Bool, List, [], ◌∷◌, ◌++◌, Contains}
+use Rattle.std.specs.Prelude.{ℕ, Bool, List, Contains}
 use Rattle.std.specs.List.{AllByRecursion}
 use Rattle.match_expr.specs.declared.expr.Expr.{Expr}
-use Rattle.match_expr.specs.declared.expr.Expr.TheOpen.{Expr-F}
-use Rattle.match_expr.specs.declared.expr.Expr.TheFolds.{fold-Expr}
 use Rattle.match_expr.specs.declared.expr.FlatRule.{FlatRule}
+use Rattle.match_expr.specs.Primitives.{primitives_in}
 use Rattle.fw_rule.specs.declared.rule.Lit.{Lit}
 use Rattle.fw_rule.specs.declared.rule.Rule.{Rule}
 use Rattle.fw_rule.specs.declared.rule.Dump.{Dump}
 use Rattle.fw_rule.specs.Walk.{Reaches, RuleOf}
-
--- the lists, one after another
-abbrev pub joined : {X : Type 0} → List (List X) → List X
-joined [] = []
-joined (xs ∷ lists) = xs ++ joined lists
-
--- one level, with the primitives of each part in its place
-abbrev pub listed : {P : Type 0} → Expr-F P (List P) → List P
-listed (Expr-F.All parts) = joined parts
-listed (Expr-F.Not part) = part
-listed (Expr-F.Prim x) = x ∷ []
-
--- the primitives of an expression, in order
-abbrev pub primitives_in : {P : Type 0} → Expr P → List P
-primitives_in {P} = fold-Expr P (List P) listed
 
 module _ {P : Type 0} (dump : Dump P) (chain : ℕ) where
   -- the primitive stands in a known literal of a rule of a chain that is reached

@@ -16,18 +16,19 @@ use Rattle.dump_grammar.specs.Groups.{AreGroups, Group, Base, Module, ModuleOpti
 use Rattle.dump_grammar.specs.Kinds.{addresses_at, ports_at}
 use Rattle.dump_grammar.specs.Lines.{IsLine, Text, Word, bare, texts}
 use Rattle.dump_grammar.specs.Literals.{AreLiterals, IsBaseLiteral, IsPattern, modules_literals, option_follows, text_of}
-use Rattle.dump_grammar.specs.Printable.{HasPrintable, IsPrintable, IsPrintableLiteral, joined, tests_in, tests_of}
+use Rattle.match_expr.specs.Primitives.{joined, listed, primitives_in}
+use Rattle.dump_grammar.specs.Printable.{HasPrintable, IsPrintable, IsPrintableLiteral}
 use Rattle.dump_grammar.specs.RuleLines.{IsRuleHead}
 use Rattle.dump_grammar.proofs.SayingLemmas.{SaysBy, says_as}
 
-tests-Prim : {P : Type 0} (x : P) → tests_in (Prim x) ≡ x ∷ []
-tests-Prim {P} x = ap (tests_in {P = P}) (sym (rolls-Prim x)) ∙ fold-roll-Expr P (List P) (tests_of {P = P}) (Expr-F.Prim x)
+tests-Prim : {P : Type 0} (x : P) → primitives_in (Prim x) ≡ x ∷ []
+tests-Prim {P} x = ap (primitives_in {P = P}) (sym (rolls-Prim x)) ∙ fold-roll-Expr P (List P) (listed {P = P}) (Expr-F.Prim x)
 
-tests-Not : {P : Type 0} (e : Expr P) → tests_in (Not e) ≡ tests_in e
-tests-Not {P} e = ap (tests_in {P = P}) (sym (rolls-Not e)) ∙ fold-roll-Expr P (List P) (tests_of {P = P}) (Expr-F.Not e)
+tests-Not : {P : Type 0} (e : Expr P) → primitives_in (Not e) ≡ primitives_in e
+tests-Not {P} e = ap (primitives_in {P = P}) (sym (rolls-Not e)) ∙ fold-roll-Expr P (List P) (listed {P = P}) (Expr-F.Not e)
 
-tests-All : {P : Type 0} (es : List (Expr P)) → tests_in (All es) ≡ joined (map (tests_in {P = P}) es)
-tests-All {P} es = ap (tests_in {P = P}) (sym (rolls-All es)) ∙ fold-roll-Expr P (List P) (tests_of {P = P}) (Expr-F.All es)
+tests-All : {P : Type 0} (es : List (Expr P)) → primitives_in (All es) ≡ joined (map (primitives_in {P = P}) es)
+tests-All {P} es = ap (primitives_in {P = P}) (sym (rolls-All es)) ∙ fold-roll-Expr P (List P) (listed {P = P}) (Expr-F.All es)
 
 line_front : (front back : Text) → IsLine (front ++ back) → IsLine front
 line_front [] back is = tt
@@ -59,7 +60,7 @@ GroupsFree (ModuleOption c n o a ∷ gs) = GroupsFree gs
 
 module _ {W : ℕ} where
   one_printable : (neg : Bool) (e : Expr (Prim_ W)) (x : Prim_ W) → e ≡ Prim x → HasPrintable x → IsPrintableLiteral (Lit.Known neg e)
-  one_printable neg e x is has = subst (λ (xs : List (Prim_ W)). AllByRecursion HasPrintable xs) (sym (ap (tests_in {P = Prim_ W}) is ∙ tests-Prim x)) (has, tt)
+  one_printable neg e x is has = subst (λ (xs : List (Prim_ W)). AllByRecursion HasPrintable xs) (sym (ap (primitives_in {P = Prim_ W}) is ∙ tests-Prim x)) (has, tt)
 
   base_printable : (Reads : Text → ℕ → Type 0) (negated : Bool) (o : Text) (arguments : List Text) (l : Lit (Prim_ W)) → AreFree arguments → IsBaseLiteral Reads negated o arguments l
       → IsPrintableLiteral l
@@ -82,15 +83,15 @@ module _ {W : ℕ} where
   addresses_printable neg Side.Source rs e x = one_printable neg e _ x tt
   addresses_printable neg Side.Destination rs e x = one_printable neg e _ x tt
 
-  either_tests : (a b : Prim_ W) → tests_in (Not (All (Not (Prim a) ∷ Not (Prim b) ∷ []))) ≡ a ∷ b ∷ []
+  either_tests : (a b : Prim_ W) → primitives_in (Not (All (Not (Prim a) ∷ Not (Prim b) ∷ []))) ≡ a ∷ b ∷ []
   either_tests a b =
       tests-Not (All (Not (Prim a) ∷ Not (Prim b) ∷ [])) ∙ tests-All (Not (Prim a) ∷ Not (Prim b) ∷ [])
-      ∙ ap (λ (xs : List (Prim_ W)). xs ++ (tests_in (Not (Prim b)) ++ [])) (tests-Not (Prim a) ∙ tests-Prim a)
+      ∙ ap (λ (xs : List (Prim_ W)). xs ++ (primitives_in (Not (Prim b)) ++ [])) (tests-Not (Prim a) ∙ tests-Prim a)
       ∙ ap (λ (xs : List (Prim_ W)). a ∷ (xs ++ [])) (tests-Not (Prim b) ∙ tests-Prim b)
 
   either_printable : (neg : Bool) (n : ℕ) (rs : List Range) (e : Expr (Prim_ W)) → e ≡ either_port n rs → IsPrintableLiteral (Lit.Known neg e)
   either_printable neg n rs e x =
-      subst (λ (xs : List (Prim_ W)). AllByRecursion HasPrintable xs) (sym (ap (tests_in {P = Prim_ W}) x ∙ either_tests _ _)) (tt, (tt, tt))
+      subst (λ (xs : List (Prim_ W)). AllByRecursion HasPrintable xs) (sym (ap (primitives_in {P = Prim_ W}) x ∙ either_tests _ _)) (tt, (tt, tt))
 
   by_printable : (Reads : Text → ℕ → Type 0) (groups : List Group) (k : Kind) (arguments : List Text) (negated neg : Bool) (e : Expr (Prim_ W)) → SaysBy Reads groups k arguments negated e
       → IsPrintableLiteral (Lit.Known neg e)

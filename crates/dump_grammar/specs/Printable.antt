@@ -2,9 +2,7 @@
 use Rattle.std.specs.Prelude.{ℕ, ◌≡◌, ◌≤◌, List, [], ◌∷◌, ◌++◌, codes, length}
 use Rattle.std.specs.List.{AllByRecursion}
 use Rattle.fw_rule.specs.declared.rule.Lit.{Lit}
-use Rattle.match_expr.specs.declared.expr.Expr.{Expr}
-use Rattle.match_expr.specs.declared.expr.Expr.TheFolds.{fold-Expr}
-use Rattle.match_expr.specs.declared.expr.Expr.TheOpen.{Expr-F}
+use Rattle.match_expr.specs.Primitives.{primitives_in}
 use Rattle.name_set.specs.declared.pattern.Pattern.{Pattern}
 use Rattle.primitives.specs.declared.prim.Prim_.{Prim_}
 use Rattle.dump_grammar.specs.Lines.{IsLine, Text}
@@ -13,21 +11,6 @@ use Rattle.dump_grammar.specs.Lines.{IsLine, Text}
 abbrev pub IsPrintable : Pattern → Type 0
 IsPrintable (Pattern.Exact name) = (1 ≤ length name) × (length name ≤ 255) × ((front : Text) → name ≡ front ++ codes "+" → ⊥) × IsLine name
 IsPrintable (Pattern.Prefix front) = (length front ≤ 254) × IsLine front
-
--- the lists, one after another
-abbrev pub joined : {X : Type 0} → List (List X) → List X
-joined [] = []
-joined (xs ∷ lists) = xs ++ joined lists
-
--- one level, with the tests of each part in its place
-abbrev pub tests_of : {P : Type 0} → Expr-F P (List P) → List P
-tests_of (Expr-F.All parts) = joined parts
-tests_of (Expr-F.Not part) = part
-tests_of (Expr-F.Prim x) = x ∷ []
-
--- the tests that stand in an expression, in order
-abbrev pub tests_in : {P : Type 0} → Expr P → List P
-tests_in {P} = fold-Expr P (List P) tests_of
 
 module _ {W : ℕ} where
   -- a test of an interface's name is of a printable pattern
@@ -38,5 +21,5 @@ module _ {W : ℕ} where
 
   -- so is each test of a known literal
   abbrev pub IsPrintableLiteral : Lit (Prim_ W) → Type 0
-  IsPrintableLiteral (Lit.Known neg expr) = AllByRecursion HasPrintable (tests_in expr)
+  IsPrintableLiteral (Lit.Known neg expr) = AllByRecursion HasPrintable (primitives_in expr)
   IsPrintableLiteral (Lit.Unknown text) = Unit {0}

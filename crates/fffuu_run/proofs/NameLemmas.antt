@@ -1,10 +1,7 @@
 -- The names in the rules of a closed chain can be printed, since those of its dump can.
-use Rattle.std.proofs.Common.{◌≡◌, ◌++◌, ◌⊎◌, ℕ, zero, suc, List, [], ◌∷◌, All, Contains, refl, inl, inr, arith, ap, sym, subst}
+use Rattle.std.proofs.Common.{◌≡◌, ◌++◌, ◌⊎◌, ℕ, zero, suc, List, [], ◌∷◌, All, Contains, refl, inl, inr, arith, sym, subst}
 use Rattle.std.specs.List.{AllByRecursion}
 use Rattle.std.proofs.lemmas.List.Elements.{All-contains, All-from_recursion}
-use Rattle.match_expr.specs.declared.expr.Expr.{Expr}
-use Rattle.match_expr.specs.declared.expr.Expr.TheOpen.{Expr-F}
-use Rattle.match_expr.specs.declared.expr.Expr.TheFolds.{fold-Expr}
 use Rattle.name_set.specs.declared.pattern.Pattern.{Pattern}
 use Rattle.name_set.specs.declared.set.NameSet.{NameSet}
 use Rattle.primitives.specs.declared.prim.Prim_.{Prim_}
@@ -12,31 +9,17 @@ use Rattle.fw_rule.specs.declared.rule.Lit.{Lit}
 use Rattle.fw_rule.specs.declared.rule.Rule.{Rule}
 use Rattle.fw_rule.specs.declared.rule.Chain.{Chain}
 use Rattle.fw_rule.specs.declared.rule.Dump.{Dump}
-use Rattle.closure.specs.Sources.{IsKnown, joined as joined_lists, listed, primitives_in}
+use Rattle.closure.specs.Sources.{IsKnown}
 use Rattle.box_norm.specs.declared.cube.Cube.{Cube}
 use Rattle.box_norm.specs.declared.cube.SimpleRule.{SimpleRule}
 use Rattle.box_norm.specs.Regular.{EachCube, patterns_in}
 use Rattle.simple_filter.specs.Closed.{IsKnownPattern, NamesAreKnown, NamesKnown}
-use Rattle.dump_grammar.specs.Printable.{HasPrintable, IsPrintable, IsPrintableLiteral, joined, tests_in, tests_of}
+use Rattle.match_expr.specs.Primitives.{primitives_in}
+use Rattle.dump_grammar.specs.Printable.{HasPrintable, IsPrintable, IsPrintableLiteral}
 use Rattle.dump_read.specs.Answers.{IsPrintableDump}
 use Rattle.printed_text.specs.Names.{ArePrintableNames, HasPrintableNames}
 use Rattle.fw_rule.proofs.Ends.{contains_at}
 use Rattle.fffuu_run.proofs.DumpLemmas.{contains_none}
-
-same_joined : {P : Type 0} (lists : List (List P)) → joined_lists lists ≡ joined lists
-same_joined [] = refl
-same_joined (xs ∷ lists) = ap (λ rest. xs ++ rest) (same_joined lists)
-
-same_level : {P : Type 0} (x : Expr-F P (List P)) → listed x ≡ tests_of x
-same_level (Expr-F.All parts) = same_joined parts
-same_level (Expr-F.Not part) = refl
-same_level (Expr-F.Prim x) = refl
-
--- the primitives of an expression are its tests
-same_tests : {P : Type 0} (e : Expr P) → primitives_in e ≡ tests_in e
-same_tests {P} e =
-    let levels : listed {P = P} ≡ tests_of = λ i x. same_level x i in
-    ap (λ (level : Expr-F P (List P) → List P). fold-Expr P (List P) level e) levels
 
 each_weaker : {X : Type 0} (Q R : X → Type 0) → ((x : X) → Q x → R x) → (xs : List X) → AllByRecursion Q xs → AllByRecursion R xs
 each_weaker Q R f [] each = tt
@@ -58,7 +41,7 @@ module _ {W : ℕ} where
         let rules = All-contains (λ (h : Chain (Prim_ W)). All (λ (r : Rule (Prim_ W)). AllByRecursion IsPrintableLiteral r.lits) h.rules) dump.chains here printable (contains_at dump.chains c here at) in
         let literals = All-contains (λ (r : Rule (Prim_ W)). AllByRecursion IsPrintableLiteral r.lits) here.rules rule rules inside in
         let tests = All-contains IsPrintableLiteral rule.lits (Lit.Known neg expr) (All-from_recursion IsPrintableLiteral rule.lits literals) literal in
-        All-contains HasPrintable (tests_in expr) x (All-from_recursion HasPrintable (tests_in expr) tests) (subst (λ (xs : List (Prim_ W)). Contains xs x) (same_tests expr) among)
+        All-contains HasPrintable (primitives_in expr) x (All-from_recursion HasPrintable (primitives_in expr) tests) among
 
     pattern_printable : (pattern : Pattern) → IsKnownPattern dump chain pattern → IsPrintable pattern
     pattern_printable pattern (x, known, there) = of_test x pattern (known_printable x known) there

@@ -9,11 +9,12 @@ use Rattle.name_set.specs.declared.pattern.Pattern.{Pattern}
 use Rattle.name_set.specs.declared.set.NameSet.{NameSet}
 use Rattle.primitives.specs.declared.prim.Prim_.{Prim_}
 use Rattle.fw_rule.specs.declared.rule.Dump.{Dump}
-use Rattle.closure.specs.Sources.{joined, listed, primitives_in, IsKnown, AreKnown}
+use Rattle.match_expr.specs.Primitives.{joined, listed, primitives_in}
+use Rattle.closure.specs.Sources.{IsKnown, AreKnown}
 use Rattle.box_norm.specs.declared.cube.Cube.{Cube}
 use Rattle.box_norm.specs.declared.cube.SimpleRule.{SimpleRule}
 use Rattle.box_norm.specs.Normal.{normal_of}
-use Rattle.box_norm.specs.Regular.{patterns_in, gathered, patterns_step, patterns_of, rule_patterns, IsOf, NamesAreOf, EachCube}
+use Rattle.box_norm.specs.Regular.{patterns_in, patterns_step, patterns_of, rule_patterns, IsOf, NamesAreOf, EachCube}
 use Rattle.box_norm.proofs.RegularLaws.{all_append}
 use Rattle.box_norm.proofs.StayLaws.{all_map, normal_patterns}
 use Rattle.simple_filter.specs.Closed.{IsKnownPattern, NamesKnown, NamesAreKnown}
@@ -46,10 +47,10 @@ module _ {W : ℕ} (dump : Dump (Prim_ W)) (chain : ℕ) where
   Kept e = AllByRecursion (IsKnown dump chain) (primitives_in e) → AllByRecursion Known (patterns_of {W = W} e)
 
   every : (es : List ((e : E) × Kept e)) → AllByRecursion (IsKnown dump chain) (joined (map primitives_in (map (λ e. e.0) es))) →
-      AllByRecursion Known (gathered (map (patterns_of {W = W}) (map (λ e. e.0) es)))
+      AllByRecursion Known (joined (map (patterns_of {W = W}) (map (λ e. e.0) es)))
   every [] h = tt
   every (e ∷ es) h =
-      all_append Known (patterns_of {W = W} e.0) (gathered (map (patterns_of {W = W}) (map (λ e. e.0) es)))
+      all_append Known (patterns_of {W = W} e.0) (joined (map (patterns_of {W = W}) (map (λ e. e.0) es)))
       (e.1 (all_left (IsKnown dump chain) (primitives_in e.0) (joined (map primitives_in (map (λ e. e.0) es))) h))
       (every es (all_right (IsKnown dump chain) (primitives_in e.0) (joined (map primitives_in (map (λ e. e.0) es))) h))
 
