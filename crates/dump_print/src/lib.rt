@@ -22,6 +22,7 @@ pub use laws::{flags_are_kept, ports_are_kept, words_are_kept};
 pub use names::pattern_text;
 pub use printing::{Printed, print};
 pub use protocols::Protocols;
+pub use words::flags_text;
 
 #[cfg(test)]
 mod tests;

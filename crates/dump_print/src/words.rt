@@ -1,11 +1,11 @@
-ghost use Rattle.std.specs.Prelude.{◌≡◌, ◌++◌, ◌∷◌, OnOk, map, if◌then◌else◌};
+ghost use Rattle.std.specs.Prelude.{◌≡◌, ◌++◌, ◌∷◌, OnErr, OnOk, map, if◌then◌else◌};
 ghost use Rattle.dump_print.specs.Flags.{flags_text, name_list};
 ghost use Rattle.dump_print.specs.Protocols.{name_of};
 ghost use Rattle.dump_print.specs.States.{states_text};
 ghost use Rattle.dump_print.specs.Tables.{named};
 
 use crate::writer::append_number;
-use std::alloc::AllocError;
+use std::alloc::{AllocError, Global};
 
 /// A name, and the number or the bit that it stands for.
 pub(crate) struct Name {
@@ -163,6 +163,17 @@ pub(crate) fn append_flags(flags: u8, out: &mut Vec<u8>) -> Result<(), AllocErro
     } else {
         append_set(&FLAGS, flags, out)
     }
+}
+
+/// Appends the names of flags of tcp that are set, in the order FIN, SYN, RST, PSH, ACK, URG with commas between them, and NONE
+/// for no flag. Without memory `out` is as before.
+pub fn flags_text(alloc: Global, flags: u8, out: &mut Vec<u8>) -> Result<(), AllocError>
+    ensures ok { OnOk result (out.new.items ≡ out.old.items ++ flags_text flags) }
+    ensures err { OnErr result (out.new.items ≡ out.old.items) }
+{
+    let mut text = Vec::new(alloc);
+    append_flags(flags, &mut text)?;
+    out.extend_from_slice(&text)
 }
 
 /// Appends a list of states.
