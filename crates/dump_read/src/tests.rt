@@ -77,3 +77,13 @@ fn rules_stand_in_their_chains(rt: HostRuntime) -> Result<(), Fail> {
     }
     Ok(())
 }
+
+#[test]
+fn the_laws_hold_in_both_families() {
+    let text = b"*filter\nCOMMIT\n".as_slice();
+    some_kind::<V4, 32>(text);
+    some_kind::<V6, 128>(text);
+    one_kind::<V4, 32>(text);
+    one_answer::<V6, 128>(text);
+    fronts_fit::<V6, 128>();
+}
