@@ -1,0 +1,9 @@
+//! The packet that opens a service from one address to another.
+#![tactic(auto)]
+
+mod service;
+
+pub use service::Service;
+
+#[cfg(test)]
+mod tests;
