@@ -1,0 +1,10 @@
+pub mod Alike
+pub mod Dividing
+pub mod Ends
+pub mod Filling
+pub mod Gathering
+pub mod GroupLaws
+pub mod Lasts
+pub mod Placing
+pub mod Runs
+pub mod Sorted

@@ -1,0 +1,80 @@
+//! Where the sets begin and end.
+ghost use Rattle.std.specs.Prelude.{◌≡◌, ◌-◌, ◌^◌, ◌≤◌, ◌∷◌, [], IfErr, IfOk, OnOk, length};
+ghost use Rattle.interval_set.specs.Numbers.{IsWidth};
+ghost use Rattle.ip_partition.specs.Boundaries.{Ascend};
+ghost use Rattle.ip_partition.specs.Starts.{after, ends, starts_of, with_number, with_numbers, PassesLimit};
+
+use crate::GroupFault;
+use interval_set::{Range, Set};
+use std::alloc::Global;
+
+/// The most atoms: one begins at 0, and one at each of 4,096 boundaries.
+const MOST_ATOMS: usize = 4097;
+
+/// Puts the number in its place among numbers that ascend, unless it is there already.
+fn put(starts: &mut Vec<u128>, start: u128) -> Result<(), GroupFault>
+    requires ascend { Ascend 0 starts.old.items }
+    requires few { length starts.old.items ≤ 4097 }
+    ensures put { OnOk result (starts.new.items ≡ with_number start starts.old.items) }
+    ensures few { OnOk result (length starts.new.items ≤ 4097) }
+    ensures refused { IfErr result (PassesLimit (with_number start starts.old.items)) }
+{
+    match starts.binary_search(&start) {
+        Ok(_) => Ok(()),
+        Err(at) => {
+            if starts.len() == MOST_ATOMS {
+                return Err(GroupFault::Atoms);
+            }
+            starts.insert(at, start)?;
+            Ok(())
+        }
+    }
+}
+
+/// Puts the number after the last one of a range, unless that is the top.
+fn put_after(starts: &mut Vec<u128>, last: u128, top: u128) -> Result<(), GroupFault>
+    requires ascend { Ascend 0 starts.old.items }
+    requires few { length starts.old.items ≤ 4097 }
+    ensures put { OnOk result (starts.new.items ≡ with_numbers (after top last) starts.old.items) }
+    ensures few { OnOk result (length starts.new.items ≤ 4097) }
+    ensures refused { IfErr result (PassesLimit (with_numbers (after top last) starts.old.items)) }
+{
+    if last >= top {
+        return Ok(());
+    }
+    put(starts, last + 1)
+}
+
+/// Puts where each range begins and where the numbers after it begin.
+fn put_ends(starts: &mut Vec<u128>, ranges: &[Range], top: u128) -> Result<(), GroupFault>
+    requires ascend { Ascend 0 starts.old.items }
+    requires few { length starts.old.items ≤ 4097 }
+    ensures put { OnOk result (starts.new.items ≡ with_numbers (ends top ranges.now) starts.old.items) }
+    ensures few { OnOk result (length starts.new.items ≤ 4097) }
+    ensures refused { IfErr result (PassesLimit (with_numbers (ends top ranges.now) starts.old.items)) }
+{
+    for range in ranges {
+        put(starts, range.lo)?;
+        put_after(starts, range.hi, top)?;
+    }
+    Ok(())
+}
+
+/// Where the atoms begin: 0 and the boundaries of the sets, in ascending order.
+pub(crate) fn atom_starts<const W: u32>(
+    alloc: Global,
+    sets: &[Set<W>],
+) -> Result<Vec<u128>, GroupFault>
+    requires { IsWidth W }
+    ensures starts { IfOk result (λ v. v.items ≡ starts_of W sets.now) }
+    ensures few { IfOk result (λ v. length v.items ≤ 4097) }
+    ensures refused { IfErr result (PassesLimit (starts_of W sets.now)) }
+{
+    let top = Set::<W>::top();
+    let mut starts = Vec::new(alloc);
+    starts.push(0)?;
+    for set in sets {
+        put_ends(&mut starts, set.ranges(), top)?;
+    }
+    Ok(starts)
+}
