@@ -1,0 +1,117 @@
+-- The least values of a cube's dimensions, and where there are none.
+use Rattle.std.proofs.Common.{◌≡◌, ℕ, ◌+◌, ◌-◌, ◌*◌, ◌^◌, ◌<◌, ◌≤◌, List, [], ◌∷◌, Bool, true, false, ◌&&◌, ◌||◌, Option, None, Some, ◌∙◌, ap, arith, length, get_or, take, drop}
+use Rattle.std.specs.Int.{bit_at, trailing_zeros, w64}
+use Rattle.std.specs.List.{AllByRecursion}
+use Rattle.std.proofs.lemmas.Bool.Decides.{nat_tests}
+use Rattle.std.proofs.lemmas.Nat.Bits.{bit_at-trailing_zeros, bit_at-zero, bit_at_cat_high}
+use Rattle.interval_set.specs.declared.set.Range.{Range}
+use Rattle.interval_set.specs.Numbers.{IsSet, has}
+use Rattle.interval_set.proofs.Spelling.{has_above, power}
+use Rattle.name_set.specs.Least.{IsLeast as IsLeastName}
+use Rattle.primitives.specs.declared.prim.Packet.{Packet}
+use Rattle.primitives.specs.Holds.{has_bit}
+use Rattle.box_norm.specs.declared.cube.Cube.{Cube}
+use Rattle.box_norm.specs.Cubes.{any_holds, holds_cube}
+use Rattle.box_norm.specs.Overlaps.{and_of, holds_some}
+use Rattle.box_norm.proofs.OverlapLaws.{and_holds}
+use Rattle.region_cut.specs.Hits.{AreParts, HitsOne, IsFirstHit, IsHit, IsLeastOf}
+use Rattle.region_cut.specs.Least.{AreApart, IsLeastBit}
+use Rattle.region_cut.proofs.Items.{around_item}
+
+-- numbers of a set are below its bound
+pub below_bound : (w n : ℕ) (rs : List Range) → IsSet w rs → has rs n ≡ true → n < 2 ^ w
+below_bound w n rs s h =
+    let p = power w s.0 in
+    let f : 2 ^ w - 1 < n → has rs n ≡ false = has_above (2 ^ w - 1) 0 n rs s.1 in
+    grind (arith, f, h, p)
+
+-- bits
+no_bits : (n : ℕ) → has_bit 0 n ≡ false
+no_bits n = let z = bit_at-zero n in grind (arith, nat_tests, z)
+
+pub zero_bits : (bits : ℕ) → bits ≡ 0 → (n : ℕ) → has_bit bits n ≡ false
+zero_bits bits e n = ap (λ b. has_bit b n) e ∙ no_bits n
+
+pub least_bit_is : (bits n : ℕ) → 0 < bits → bits < 2 ^ 64 → n ≡ trailing_zeros w64 bits → IsLeastBit bits n × (n < 64)
+least_bit_is bits n h k e =
+    let t = bit_at-trailing_zeros w64 bits h k in
+    rw e (
+      (
+        grind (arith, nat_tests, t.1),
+        λ i g. let f : i < trailing_zeros w64 bits → bit_at bits i ≡ 0 = t.2 i in grind (arith, nat_tests, f, g),
+      ),
+      t.0,
+    )
+
+pub low_bit : (states n : ℕ) → states < 32 → has_bit states n ≡ true → n < 5
+low_bit states n h k =
+    let f : 5 ≤ n → bit_at states n ≡ 0 = λ l.
+    let e : states ≡ 0 * 2 ^ 5 + states = omega arith in
+    ap (λ s. bit_at s n) e ∙ bit_at_cat_high 0 5 states n h l ∙ bit_at-zero (n - 5) in
+    grind (arith, nat_tests, f, k)
+
+-- a dimension without a value
+module _ {W : ℕ} (c : Cube W) where
+  pub no_in_name : IsLeastName c.in_name None → IsLeastOf c None
+  no_in_name h p v = let f = h p.in_name v.in_name in grind (arith, f)
+
+  pub no_out_name : IsLeastName c.out_name None → IsLeastOf c None
+  no_out_name h p v = let f = h p.out_name v.out_name in grind (arith, f)
+
+  pub no_src : ((n : ℕ) → has c.src n ≡ false) → IsLeastOf c None
+  no_src h p v = let f = h p.src in grind (arith, f)
+
+  pub no_dst : ((n : ℕ) → has c.dst n ≡ false) → IsLeastOf c None
+  no_dst h p v = let f = h p.dst in grind (arith, f)
+
+  pub no_proto : ((n : ℕ) → has c.proto n ≡ false) → IsLeastOf c None
+  no_proto h p v = let f = h p.proto in grind (arith, f)
+
+  pub no_sport : ((n : ℕ) → has c.sport n ≡ false) → IsLeastOf c None
+  no_sport h p v = let f = h p.sport in grind (arith, f)
+
+  pub no_dport : ((n : ℕ) → has c.dport n ≡ false) → IsLeastOf c None
+  no_dport h p v = let f = h p.dport in grind (arith, f)
+
+  pub no_flags : ((n : ℕ) → has_bit c.flags n ≡ false) → IsLeastOf c None
+  no_flags h p v = let f = h p.flags in grind (arith, f)
+
+  pub no_state : ((n : ℕ) → has_bit c.state n ≡ false) → IsLeastOf c None
+  no_state h p v = let f = h p.state in grind (arith, f)
+
+-- what one region answers
+held_by : (a b s : Bool) → s ≡ (a && b) → s ≡ false → a ≡ true → b ≡ true → ⊥
+held_by a b s e f h k = absurd (grind (arith, e, f, h, k))
+
+pub apart_none : {W : ℕ} (a b : Cube W) → and_of a b ≡ None → AreApart a b
+apart_none a b e p v h k = held_by (holds_cube a p) (holds_cube b p) (holds_some (and_of a b) p) (and_holds a b p v) (ap (λ o. holds_some o p) e) h k
+
+pub hits_one : {W : ℕ} (a b common : Cube W) → and_of a b ≡ Some common → (o : Option Packet) → IsLeastOf common o → HitsOne a b o
+hits_one a b common e None l = λ p v h k. held_by (holds_cube a p) (holds_cube b p) (holds_some (and_of a b) p) (and_holds a b p v) (ap (λ o. holds_some o p) e ∙ l p v) h k
+hits_one a b common e (Some p) l = record { common = common; common_is = e; least = l.0; valid = l.1 }
+
+-- parts of a region that is apart from the cube
+left_true : (a b : Bool) → a ≡ true → (a || b) ≡ true
+left_true a b h = grind (arith, h)
+
+right_true : (a b : Bool) → b ≡ true → (a || b) ≡ true
+right_true a b h = grind (arith, h)
+
+pub parts_apart : {W : ℕ} (region cube : Cube W) (parts : List (Cube W)) → AreParts region parts → AreApart region cube → AllByRecursion (λ c. AreApart c cube) parts
+parts_apart region cube [] within apart = tt
+parts_apart region cube (c ∷ cs) within apart = (
+  λ p v h k. apart p v (within p v (left_true (holds_cube c p) (any_holds cs p) h)) k,
+  parts_apart region cube cs (λ p v h. within p v (right_true (holds_cube c p) (any_holds cs p) h)) apart,
+)
+
+-- what several regions answer, where the first that has a packet is at this place
+pub hit_at : {W : ℕ} (regions : List (Cube W)) (cube : Cube W) (i : ℕ) (x : Cube W) → i < length regions → x ≡ get_or regions i x →
+    AllByRecursion (λ c. AreApart c cube) (take i regions) → (p : Packet) → IsHit x cube p → IsFirstHit regions cube p
+hit_at regions cube i x h is apart p hit = record {
+  passed = take i regions;
+  here = x;
+  rest = drop (i + 1) regions;
+  whole = around_item regions i x h is;
+  apart = apart;
+  hit = hit;
+}
