@@ -1,5 +1,5 @@
 ghost use Rattle.fw_rule.specs.Walk.{Settled};
-ghost use Rattle.simple_filter.specs.Laws.{MayWidens, MustNarrows, NothingChanges, SettledStays};
+ghost use Rattle.simple_filter.specs.Laws.{CallsStay, MayWidens, MustNarrows, NothingChanges, SettledStays};
 
 use fw_rule::Dump;
 use primitives::{Packet, Prim_};
@@ -12,6 +12,11 @@ pub fn hiding_nothing<const W: u32>(dump: &Dump<Prim_<W>>)
 /// Whatever is hidden, a chain is settled before and after or neither time.
 pub fn hiding_keeps_settled<const W: u32>(dump: &Dump<Prim_<W>>)
     ensures { SettledStays dump.now }
+{}
+
+/// Whatever is hidden, numbers fit, calls name chains and chains have their policies as before.
+pub fn hiding_keeps_calls<const W: u32>(dump: &Dump<Prim_<W>>)
+    ensures { CallsStay dump.now }
 {}
 
 /// What may be accepted may be accepted after names are hidden.

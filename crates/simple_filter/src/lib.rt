@@ -12,5 +12,8 @@ mod tests;
 
 pub use closing::closed;
 pub use hiding::{Hide, abstracted};
-pub use laws::{hiding_keeps_settled, hiding_narrows_must, hiding_nothing, hiding_widens_may};
+pub use laws::{
+    hiding_keeps_calls, hiding_keeps_settled, hiding_narrows_must, hiding_nothing,
+    hiding_widens_may,
+};
 pub use refusal::{Kind, Refusal};

@@ -147,6 +147,7 @@ fn the_laws_can_be_called_at_a_settled_dump(rt: HostRuntime) -> Result<(), Fail>
     };
     hiding_nothing(&dump);
     hiding_keeps_settled(&dump);
+    hiding_keeps_calls(&dump);
     hiding_widens_may(&dump, 0, &packet);
     hiding_narrows_must(&dump, 0, &packet);
     Ok(())
