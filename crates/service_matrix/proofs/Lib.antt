@@ -1,0 +1,12 @@
+pub mod Alike
+pub mod Built
+pub mod EdgeReads
+pub mod Groups
+pub mod Joins
+pub mod Lines
+pub mod NameLaws
+pub mod OneMatrix
+pub mod Partitions
+pub mod Passes
+pub mod Sources
+pub mod Squares

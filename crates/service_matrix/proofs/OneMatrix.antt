@@ -1,0 +1,105 @@
+-- Edges between addresses have one matrix alone.
+use Rattle.std.proofs.Common.{◌≡◌, ◌≢◌, ℕ, zero, suc, ◌-◌, ◌^◌, ◌<◌, ◌≤◌, ◌==◌, Bool, true, false, ◌⊎◌, inl, inr, List, [], ◌∷◌, length, None, Some, slice_get, unwrap_or, refl, sym, ◌∙◌, subst, arith}
+use Rattle.std.proofs.lemmas.Bool.Decides.{nat_tests}
+use Rattle.std.specs.List.{AllByRecursion}
+use Rattle.interval_set.specs.declared.set.Range.{Range}
+use Rattle.interval_set.specs.Numbers.{has, IsSet}
+use Rattle.interval_set.proofs.Spelling.{has_above, power}
+use Rattle.ip_partition.specs.Partition.{IsIn}
+use Rattle.service_matrix.specs.declared.table.Matrix.{Matrix}
+use Rattle.service_matrix.specs.Matrices.{has_edge, IsSquare, IsMatrix}
+use Rattle.service_matrix.specs.Laws.{HasOneMatrix}
+use Rattle.service_matrix.proofs.Partitions.{same_bool, of_partition, Together, SameClasses, one_list}
+
+pub set_below : (w : ℕ) (set : List Range) (n : ℕ) → IsSet w set → has set n ≡ true → n < 2 ^ w
+set_below w set n s h =
+    let p : 1 ≤ 2 ^ w = power w s.0 in
+    let above : 2 ^ w - 1 < n → has set n ≡ false = λ l. has_above (2 ^ w - 1) 0 n set s.1 l in
+    grind (arith, p, above, h)
+
+one_of : (Q : List Range → Type 0) (classes : List (List Range)) (i : ℕ) (class : List Range) → AllByRecursion Q classes → slice_get classes i ≡ Some class → Q class
+one_of Q [] i class h e = let f : None ≡ Some class = e in absurd (cc f)
+one_of Q (c ∷ cs) zero class h e = let f : c ≡ class = cc (e) in subst Q f h.0
+one_of Q (c ∷ cs) (suc i) class h e = one_of Q cs i class h.1 e
+
+-- what is in a class is an address
+pub in_below : (w : ℕ) (classes : List (List Range)) (i n : ℕ) → AllByRecursion (IsSet w) classes → IsIn classes i n → n < 2 ^ w
+in_below w classes i n h x = set_below w x.0 n (one_of (IsSet w) classes i x.0 h x.1) x.2
+
+slice_get_below : (classes : List (List Range)) (i : ℕ) (class : List Range) → slice_get classes i ≡ Some class → i < length classes
+slice_get_below [] i class e = let f : None ≡ Some class = e in absurd (cc f)
+slice_get_below (c ∷ cs) zero class e = omega arith
+slice_get_below (c ∷ cs) (suc i) class e = let h = slice_get_below cs i class e in omega (arith, h)
+
+-- lists of one length with the same items
+same_lists : {X : Type 0} (x : X) (xs ys : List X) → length xs ≡ length ys → ((i : ℕ) → i < length xs → unwrap_or (slice_get xs i) x ≡ unwrap_or (slice_get ys i) x) → xs ≡ ys
+same_lists x [] [] l e = refl
+same_lists x [] (y ∷ ys) l e = absurd (omega (arith, l))
+same_lists x (z ∷ xs) [] l e = absurd (omega (arith, l))
+same_lists x (z ∷ xs) (y ∷ ys) l e =
+    let head : z ≡ y = e 0 (omega arith) in
+    let tail : xs ≡ ys = same_lists x xs ys (omega (arith, l)) (λ i h. e (suc i) (omega (arith, h))) in
+    cc
+
+each_long : (n : ℕ) (edges : List (List Bool)) (i : ℕ) → AllByRecursion (λ row. length row ≡ n) edges → i < length edges → length (unwrap_or (slice_get edges i) []) ≡ n
+each_long n [] i h l = absurd (omega (arith, l))
+each_long n (r ∷ rs) zero h l = h.0
+each_long n (r ∷ rs) (suc i) h l = each_long n rs i h.1 (omega (arith, l))
+
+same_edges : (n : ℕ) (a b : List (List Bool)) → IsSquare n a → IsSquare n b → ((i j : ℕ) → i < n → j < n → has_edge a i j ≡ has_edge b i j) → a ≡ b
+same_edges n a b sa sb e =
+    same_lists [] a b (sa.0 ∙ sym sb.0) (λ i l.
+    let la : length (unwrap_or (slice_get a i) []) ≡ n = each_long n a i sa.1 l in
+    let lb : length (unwrap_or (slice_get b i) []) ≡ n = each_long n b i sb.1 (omega (arith, l, sa.0, sb.0)) in
+    same_lists false (unwrap_or (slice_get a i) []) (unwrap_or (slice_get b i) []) (la ∙ sym lb)
+    (λ j h. e i j (omega (arith, l, sa.0)) (omega (arith, h, la))))
+
+-- a matrix has its addresses in one class where no edge tells them apart
+module _ {W : ℕ} (E : ℕ → ℕ → Type 0) (a b : Matrix W) (ma : IsMatrix E a) (mb : IsMatrix E b) where
+  module _ (n m : ℕ) (t : Together a.classes n m) (i j : ℕ) (x : IsIn b.classes i n) (y : IsIn b.classes j m) where
+    told : (k : ℕ) → k < length b.classes → (has_edge b.edges i k ≡ has_edge b.edges j k) × (has_edge b.edges k i ≡ has_edge b.edges k j)
+    told k h =
+        let d = mb.partition.some k h in
+        let l = ma.partition.covers d.0 (in_below W b.classes k d.0 mb.partition.sets d.1) in (
+          same_bool (has_edge b.edges i k) (has_edge b.edges j k)
+              (λ e. (mb.edges_are j k m d.0 y d.1).1 ((ma.edges_are t.0 l.0 m d.0 t.2 l.1).0 ((ma.edges_are t.0 l.0 n d.0 t.1 l.1).1 ((mb.edges_are i k n d.0 x d.1).0 e))))
+              (λ e. (mb.edges_are i k n d.0 x d.1).1 ((ma.edges_are t.0 l.0 n d.0 t.1 l.1).0 ((ma.edges_are t.0 l.0 m d.0 t.2 l.1).1 ((mb.edges_are j k m d.0 y d.1).0 e)))),
+          same_bool (has_edge b.edges k i) (has_edge b.edges k j)
+              (λ e. (mb.edges_are k j d.0 m d.1 y).1 ((ma.edges_are l.0 t.0 d.0 m l.1 t.2).0 ((ma.edges_are l.0 t.0 d.0 n l.1 t.1).1 ((mb.edges_are k i d.0 n d.1 x).0 e))))
+              (λ e. (mb.edges_are k i d.0 n d.1 x).1 ((ma.edges_are l.0 t.0 d.0 n l.1 t.1).0 ((ma.edges_are l.0 t.0 d.0 m l.1 t.2).1 ((mb.edges_are k j d.0 m d.1 y).0 e)))),
+        )
+
+    not_told : (k : ℕ) → k < length b.classes → ((has_edge b.edges i k ≢ has_edge b.edges j k) ⊎ (has_edge b.edges k i ≢ has_edge b.edges k j)) → ⊥
+    not_told k h (inl f) = f (told k h).0
+    not_told k h (inr f) = f (told k h).1
+
+    one_class : (c : Bool) → (i == j) ≡ c → i ≡ j
+    one_class true e = grind (arith, nat_tests, e)
+    one_class false e =
+        let d = mb.differ i j (slice_get_below b.classes i x.0 x.1) (slice_get_below b.classes j y.0 y.1) (λ s. let t : i ≡ j = s in grind (arith, nat_tests, e, t)) in
+        absurd (not_told d.0 d.1 d.2)
+
+  pub same_classes : SameClasses a.classes b.classes
+  same_classes n m t =
+      let x = mb.partition.covers n (in_below W a.classes t.0 n ma.partition.sets t.1) in
+      let y = mb.partition.covers m (in_below W a.classes t.0 m ma.partition.sets t.2) in
+      let e : x.0 ≡ y.0 = one_class n m t x.0 y.0 x.1 y.1 (x.0 == y.0) refl in
+      (y.0, subst (λ (z : ℕ). IsIn b.classes z n) e x.1, y.1)
+
+  edges_agree : a.classes ≡ b.classes → (i j : ℕ) → i < length a.classes → j < length a.classes → has_edge a.edges i j ≡ has_edge b.edges i j
+  edges_agree e i j h k =
+      let s = ma.partition.some i h in
+      let d = ma.partition.some j k in
+      let s' : IsIn b.classes i s.0 = subst (λ (z : List (List Range)). IsIn z i s.0) e s.1 in
+      let d' : IsIn b.classes j d.0 = subst (λ (z : List (List Range)). IsIn z j d.0) e d.1 in
+      same_bool (has_edge a.edges i j) (has_edge b.edges i j)
+      (λ x. (mb.edges_are i j s.0 d.0 s' d').1 ((ma.edges_are i j s.0 d.0 s.1 d.1).0 x))
+      (λ x. (ma.edges_are i j s.0 d.0 s.1 d.1).1 ((mb.edges_are i j s.0 d.0 s' d').0 x))
+
+pub has_one : {W : ℕ} (E : ℕ → ℕ → Type 0) → HasOneMatrix W E
+has_one {W} E a b ma mb =
+    let classes : a.classes ≡ b.classes = one_list W a.classes b.classes (of_partition W a.classes ma.partition) (of_partition W b.classes mb.partition)
+    (same_classes E a b ma mb) (same_classes E b a mb ma) in
+    let square : IsSquare (length a.classes) b.edges = subst (λ (z : List (List Range)). IsSquare (length z) b.edges) (sym classes) mb.square in
+    let edges : a.edges ≡ b.edges = same_edges (length a.classes) a.edges b.edges ma.square square (edges_agree E a b ma mb classes) in
+    λ i. record { classes = classes i; edges = edges i }

@@ -1,0 +1,199 @@
+ghost use Rattle.std.specs.Prelude.{IsTrue};
+ghost use Rattle.closure.specs.Checked.{HasPolicy};
+
+use super::*;
+use box_norm::{SimpleRule, whole};
+use chain_graph::{calls_name_chains, has_room};
+use closure::Side;
+use fw_rule::{Action, Chain, Dump, Lit, Rule, Verdict};
+use interval_set::Set;
+use match_expr::{Bytes, Expr, List};
+use name_set::Pattern;
+use primitives::Prim_;
+use std::alloc::{AllocError, Global};
+use std::test::Fail;
+
+/// The service tcp:10000:22.
+fn ssh() -> Service {
+    Service {
+        proto: 6,
+        sport: 10000,
+        dport: 22,
+    }
+}
+
+/// A chain of some rules and a policy.
+fn dump_of(
+    alloc: Global,
+    rules: Vec<Rule<Prim_<32>>>,
+    policy: Verdict,
+) -> Result<Dump<Prim_<32>>, AllocError> {
+    let mut chains = Vec::new(alloc);
+    chains.push(Chain {
+        name: Bytes::of(Vec::from_slice(alloc, b"FORWARD")?),
+        policy: Some(policy),
+        rules: List::of(rules),
+    })?;
+    Ok(Dump {
+        chains: List::of(chains),
+    })
+}
+
+/// A chain of one rule with these tests.
+fn one_rule(
+    alloc: Global,
+    tests: Vec<Prim_<32>>,
+    action: Action,
+    policy: Verdict,
+) -> Result<Dump<Prim_<32>>, AllocError> {
+    let mut lits = Vec::new(alloc);
+    for test in tests {
+        lits.push(Lit::Known {
+            neg: false,
+            expr: Expr::Prim(test),
+        })?;
+    }
+    let mut rules = Vec::new(alloc);
+    rules.push(Rule {
+        lits: List::of(lits),
+        action,
+        line: 3,
+    })?;
+    dump_of(alloc, rules, policy)
+}
+
+/// Whether the chain is there and has a policy.
+fn has_policy(dump: &Dump<Prim_<32>>, chain: u32) -> bool
+    ensures { IsTrue result → HasPolicy dump.now chain }
+{
+    match dump.chains.as_slice().get(chain as usize) {
+        Some(here) => here.policy.is_some(),
+        None => false,
+    }
+}
+
+/// The matrix of the first chain.
+fn matrix_of(alloc: Global, dump: &Dump<Prim_<32>>, side: Side) -> Result<Matrix<32>, Fail> {
+    if !has_policy(dump, 0) {
+        return Err("no policy".into());
+    }
+    if !has_room(dump) {
+        return Err("no room".into());
+    }
+    if !calls_name_chains(dump) {
+        return Err("a call to no chain".into());
+    }
+    match matrix(alloc, dump, 0, side, &ssh()) {
+        Ok(matrix) => Ok(matrix),
+        Err(_) => Err("a refusal".into()),
+    }
+}
+
+/// Whether the edge from one class to another is this.
+fn has_edge(matrix: &Matrix<32>, from: usize, to: usize) -> bool {
+    match matrix.edges.as_slice().get(from) {
+        Some(row) => row.as_slice().get(to).copied().unwrap_or(false),
+        None => false,
+    }
+}
+
+/// The tests for the source 10.0.0.0/8 and the destination 192.168.0.1.
+fn to_one_host(alloc: Global) -> Result<Vec<Prim_<32>>, AllocError> {
+    let mut tests = Vec::new(alloc);
+    tests.push(Prim_::Src(Set::range(alloc, 0x0A00_0000, 0x0AFF_FFFF)?))?;
+    tests.push(Prim_::Dst(Set::range(alloc, 0xC0A8_0001, 0xC0A8_0001)?))?;
+    Ok(tests)
+}
+
+#[test]
+fn without_rules_there_is_one_class(rt: HostRuntime) -> Result<(), Fail> {
+    let alloc = rt.alloc();
+    for (policy, edge) in [(Verdict::Drop, false), (Verdict::Accept, true)] {
+        let dump = dump_of(alloc, Vec::new(alloc), policy)?;
+        let matrix = matrix_of(alloc, &dump, Side::Upper)?;
+        assert_eq!(rt; matrix.classes.as_slice().len(), 1);
+        assert_eq!(rt; has_edge(&matrix, 0, 0), edge);
+    }
+    Ok(())
+}
+
+#[test]
+fn one_rule_makes_three_classes(rt: HostRuntime) -> Result<(), Fail> {
+    let alloc = rt.alloc();
+    let dump = one_rule(alloc, to_one_host(alloc)?, Action::Accept, Verdict::Drop)?;
+    let matrix = matrix_of(alloc, &dump, Side::Lower)?;
+    let classes = matrix.classes.as_slice();
+    assert_eq!(rt; classes.len(), 3);
+    for (class, least) in classes.iter().zip([0, 0x0A00_0000, 0xC0A8_0001]) {
+        assert_eq!(rt; class.least(), Some(least));
+    }
+    for from in 0..3 {
+        for to in 0..3 {
+            assert_eq!(rt; has_edge(&matrix, from, to), from == 1 && to == 2);
+        }
+    }
+    Ok(())
+}
+
+#[test]
+fn a_dropped_source_makes_a_class_of_its_own(rt: HostRuntime) -> Result<(), Fail> {
+    let alloc = rt.alloc();
+    let mut tests = Vec::new(alloc);
+    tests.push(Prim_::Src(Set::range(alloc, 0xFFFF_FFFF, 0xFFFF_FFFF)?))?;
+    let dump = one_rule(alloc, tests, Action::Drop, Verdict::Accept)?;
+    let matrix = matrix_of(alloc, &dump, Side::Upper)?;
+    assert_eq!(rt; matrix.classes.as_slice().len(), 2);
+    assert!(rt; has_edge(&matrix, 0, 0));
+    assert!(rt; has_edge(&matrix, 0, 1));
+    assert!(rt; !has_edge(&matrix, 1, 0));
+    assert!(rt; !has_edge(&matrix, 1, 1));
+    Ok(())
+}
+
+#[test]
+fn a_hidden_name_is_may_and_not_must(rt: HostRuntime) -> Result<(), Fail> {
+    let alloc = rt.alloc();
+    for (side, edge) in [(Side::Upper, true), (Side::Lower, false)] {
+        let mut tests = Vec::new(alloc);
+        tests.push(Prim_::InName(Pattern::Exact(Bytes::of(Vec::from_slice(alloc, b"eth0")?))))?;
+        let dump = one_rule(alloc, tests, Action::Accept, Verdict::Drop)?;
+        let matrix = matrix_of(alloc, &dump, side)?;
+        assert_eq!(rt; matrix.classes.as_slice().len(), 1);
+        assert_eq!(rt; has_edge(&matrix, 0, 0), edge);
+    }
+    Ok(())
+}
+
+/// A rule that accepts from 10.0.0.0/8 to 192.168.0.1.
+fn simple_rule(alloc: Global) -> Result<Vec<SimpleRule<32>>, AllocError> {
+    let mut cube = whole(alloc)?;
+    cube.src = Set::range(alloc, 0x0A00_0000, 0x0AFF_FFFF)?;
+    cube.dst = Set::range(alloc, 0xC0A8_0001, 0xC0A8_0001)?;
+    let mut rules = Vec::new(alloc);
+    rules.push(SimpleRule { cube, accept: true })?;
+    Ok(rules)
+}
+
+#[test]
+fn a_row_has_destinations_and_a_column_has_sources(rt: HostRuntime) -> Result<(), Fail> {
+    let alloc = rt.alloc();
+    let rules = simple_rule(alloc)?;
+    let to = row(alloc, rules.as_slice(), Verdict::Drop, &ssh(), 0x0A00_0001)?;
+    assert!(rt; to.same(&Set::range(alloc, 0xC0A8_0001, 0xC0A8_0001)?));
+    let from = column(alloc, rules.as_slice(), Verdict::Drop, &ssh(), 0xC0A8_0001)?;
+    assert!(rt; from.same(&Set::range(alloc, 0x0A00_0000, 0x0AFF_FFFF)?));
+    let none = row(alloc, rules.as_slice(), Verdict::Drop, &ssh(), 0x0B00_0000)?;
+    assert!(rt; none.is_empty());
+    Ok(())
+}
+
+#[test]
+fn the_laws_can_be_called(rt: HostRuntime) -> Result<(), Fail> {
+    let alloc = rt.alloc();
+    let dump = dump_of(alloc, Vec::new(alloc), Verdict::Drop)?;
+    let p = ssh().packet(alloc, 1, 2);
+    let q = ssh().packet(alloc, 2, 1);
+    alike_packets(&dump, 0, &p, &q);
+    one_matrix(&dump, 0, Side::Upper, &ssh());
+    Ok(())
+}
