@@ -26,7 +26,7 @@ module _ {P : Type 0} (dump : Dump P) where
   one_name : (r s : Rule P) (n m : List ℕ) → r ≡ s → r.action ≡ Action.Other n → s.action ≡ Action.Other m → n ≡ m
   one_name r s n m is a b = cc
 
-  least_once : (asked line line' : ℕ) (n n' : List ℕ) → OneRule → IsLeastUnsupported dump asked line n → IsLeastUnsupported dump asked line' n'
+  pub least_once : (asked line line' : ℕ) (n n' : List ℕ) → OneRule → IsLeastUnsupported dump asked line n → IsLeastUnsupported dump asked line' n'
       → status.Unsupported line n ≡ status.Unsupported line' n'
   least_once asked line line' n n' one ((r, (c, reach, in_c, is), at), low) ((s, (d, reach', in_d, is'), at'), low') =
       let below : line ≤ line' = omega (arith, low s n' (d, reach', in_d, is'), at') in
@@ -35,7 +35,7 @@ module _ {P : Type 0} (dump : Dump P) where
       let names : n ≡ n' = one_name r s n n' (one c d r s in_c in_d (at ∙ lines ∙ sym at')) is is' in
       cc
 
-  loop_once : (asked c d : ℕ) → IsFirstLoop dump asked c → IsFirstLoop dump asked d → c ≡ d
+  pub loop_once : (asked c d : ℕ) → IsFirstLoop dump asked c → IsFirstLoop dump asked d → c ≡ d
   loop_once asked c d (a, low) (b, low') = omega (arith, low d b, low' c a)
 
   pub unsupported : (asked line : ℕ) (n : List ℕ) → NoneUnsupported dump asked → IsLeastUnsupported dump asked line n → ⊥

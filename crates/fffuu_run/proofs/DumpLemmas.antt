@@ -26,16 +26,16 @@ pub contains_cons : {X : Type 0} (z : X) (zs : List X) (x : X) → Contains (z �
 contains_cons z zs x (zero, below, is) = inl is
 contains_cons z zs x (suc k, below, is) = inr (k, omega arith, is)
 
-contains_here : {X : Type 0} (z : X) (zs : List X) → Contains (z ∷ zs) z
+pub contains_here : {X : Type 0} (z : X) (zs : List X) → Contains (z ∷ zs) z
 contains_here z zs = (0, omega arith, refl)
 
-contains_there : {X : Type 0} (z : X) (zs : List X) (x : X) → Contains zs x → Contains (z ∷ zs) x
+pub contains_there : {X : Type 0} (z : X) (zs : List X) (x : X) → Contains zs x → Contains (z ∷ zs) x
 contains_there z zs x (k, below, is) = (suc k, omega arith, is)
 
 pub contains_none : {X : Type 0} (x : X) → Contains [] x → ⊥
 contains_none x (k, below, is) = omega arith
 
-map_from : {X Y : Type 0} (f : X → Y) (xs : List X) (y : Y) → Contains (map f xs) y → (x : X) × Contains xs x × (f x ≡ y)
+pub map_from : {X Y : Type 0} (f : X → Y) (xs : List X) (y : Y) → Contains (map f xs) y → (x : X) × Contains xs x × (f x ≡ y)
 map_from f [] y h = absurd (contains_none y h)
 map_from f (x ∷ xs) y h = elim (contains_cons (f x) (map f xs) y h) [
   | inl same ↦ (x, contains_here x xs, same)

@@ -1,5 +1,5 @@
 -- What the making of a filter finds.
-use Rattle.std.proofs.Common.{◌≡◌, ◌&&◌, ◌<◌, ◌⊎◌, ℕ, List, Bool, true, false, Some, None, inl, inr, sym, subst, get_or, is_some, slice_get}
+use Rattle.std.proofs.Common.{◌≡◌, ◌&&◌, ℕ, List, Bool, true, false, Some, None, subst, get_or, is_some, slice_get}
 use Rattle.std.specs.Str.{bytes_eq}
 use Rattle.std.proofs.lemmas.List.Quantifiers.{position-Some}
 use Rattle.std.proofs.lemmas.Option.{get_or_from_slice_get}
@@ -11,14 +11,9 @@ use Rattle.fw_rule.specs.declared.rule.Verdict.{Verdict}
 use Rattle.closure.specs.Checked.{HasPolicy}
 use Rattle.closure.specs.declared.sides.Side.{Side}
 use Rattle.box_norm.specs.declared.cube.SimpleRule.{SimpleRule}
-use Rattle.simple_filter.specs.Closed.{Accepts, HasCalls, IsSmall}
-use Rattle.simple_filter.specs.declared.refusal.Kind.TheVariants as kind
-use Rattle.dump_print.specs.Printed.{count_lines}
+use Rattle.simple_filter.specs.Closed.{Accepts}
 use Rattle.fffuu_run.specs.Checks.{asked_chain, is_asked}
-use Rattle.fffuu_run.specs.Filters.{RefusesAsked, simple_rules}
 use Rattle.fffuu_run.specs.Headline.{IsChain}
-use Rattle.fffuu_run.specs.declared.status.Status.{Status}
-use Rattle.fffuu_run.specs.declared.status.Status.TheVariants as status
 use Rattle.fffuu_run.proofs.CheckLemmas.{asked_there}
 
 back_true : (a b : Bool) → (a && b) ≡ true → b ≡ true
@@ -51,15 +46,6 @@ module _ {P : Type 0} (dump : Dump P) where
 
   pub policy_there : (chain : ℕ) (name : List ℕ) (v : Verdict) → IsChain dump chain name v → HasPolicy dump chain
   policy_there chain name v (here, at, named, policy) = (here, v, at, policy)
-
--- the rules are printed on too many lines
-pub many_lines : {W : ℕ} (text_of : ℕ → List ℕ) (side : Side) (dump : Dump (Prim_ W)) (chain : ℕ) (name : List ℕ) (s : Status)
-    → HasCalls dump chain → IsSmall dump chain side
-    → (s ≡ status.Memory) ⊎ ((s ≡ status.Limit kind.Lines) × (262144 < count_lines text_of W name (simple_rules dump chain side)))
-    → (s ≡ status.Memory) ⊎ RefusesAsked text_of side dump chain name s
-many_lines text_of side dump chain name s calls small (inl memory) = inl memory
-many_lines text_of side dump chain name s calls small (inr (is, many)) =
-    inr (subst (RefusesAsked text_of side dump chain name) (sym is) (record { calls = calls; small = small; many = many }))
 
 -- what holds of a chain with its policy holds of this one
 pub with_policy : {W : ℕ} (dump : Dump (Prim_ W)) (chain : ℕ) (side : Side) (name : List ℕ) (policy : Verdict) (rules : List (SimpleRule W))

@@ -3,6 +3,14 @@ pub mod SizeLemmas
 pub mod CheckLemmas
 pub mod ChainCauses
 pub mod VisitLemmas
+pub mod Told
+pub mod ClosedCauses
+pub mod HiddenRules
+pub mod BoundaryLemmas
+pub mod MatrixCauses
+pub mod SpoofLemmas
+pub mod SpoofCauses
+pub mod LoadCauses
 pub mod FilterCauses
 pub mod FilterLemmas
 pub mod NameLemmas

@@ -1,5 +1,5 @@
 -- The names in the rules of a closed chain can be printed, since those of its dump can.
-use Rattle.std.proofs.Common.{◌≡◌, ◌++◌, ◌⊎◌, ℕ, zero, suc, List, [], ◌∷◌, All, Contains, refl, inl, inr, arith, sym, subst}
+use Rattle.std.proofs.Common.{◌≡◌, ◌⊎◌, ℕ, zero, suc, List, [], ◌∷◌, All, Contains, inl, inr, arith, sym, subst}
 use Rattle.std.specs.List.{AllByRecursion}
 use Rattle.std.proofs.lemmas.List.Elements.{All-contains, All-from_recursion}
 use Rattle.name_set.specs.declared.pattern.Pattern.{Pattern}

@@ -1,5 +1,5 @@
 -- A chain has one number of visits, and what follows from it.
-use Rattle.std.proofs.Common.{◌≡◌, ◌∙◌, ◌<◌, ◌≤◌, ◌+◌, ◌-◌, ◌^◌, ◌⊎◌, ℕ, suc, List, [], ◌∷◌, Option, Some, refl, inl, inr, arith, ap, sym, subst, slice_get, min}
+use Rattle.std.proofs.Common.{◌≡◌, ◌∙◌, ◌<◌, ◌≤◌, ℕ, suc, List, [], ◌∷◌, Option, Some, refl, arith, ap, sym, subst, slice_get}
 use Rattle.fw_rule.specs.declared.rule.Rule.{Rule}
 use Rattle.fw_rule.specs.declared.rule.Chain.{Chain}
 use Rattle.fw_rule.specs.declared.rule.Dump.{Dump}
@@ -7,12 +7,10 @@ use Rattle.fw_rule.specs.declared.rule.Action.{Action}
 use Rattle.chain_graph.specs.Visits.{VisitsOf, HasVisits, None_left, Plain, Called}
 use Rattle.chain_graph.specs.Results.{IsRanked}
 use Rattle.chain_graph.specs.declared.graph.Ranked.{Ranked}
-use Rattle.fffuu_run.specs.Checks.{IsChecked, RefusesChain, asked_chain}
+use Rattle.fffuu_run.specs.Checks.{IsChecked, asked_chain}
 use Rattle.fffuu_run.specs.Explanations.{HasFewVisits, HasManyVisits, RefusesExplained}
 use Rattle.fffuu_run.specs.declared.status.Status.{Status}
 use Rattle.fffuu_run.specs.declared.status.Status.TheVariants as status
-use Rattle.std.specs.Prelude.{◌↔◌, Err, Ok, Result}
-use Rattle.explain.specs.declared.answer.ExplainFault.{ExplainFault}
 use Rattle.primitives.specs.Holds.{holds_of}
 use Rattle.primitives.specs.declared.prim.Packet.{Packet}
 use Rattle.primitives.specs.declared.prim.Prim_.{Prim_}

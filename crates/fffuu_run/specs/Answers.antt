@@ -10,7 +10,17 @@ use Rattle.request.specs.declared.types.Request.{Request}
 use Rattle.fffuu_run.specs.Checks.{Checks, RefusesCheck}
 use Rattle.fffuu_run.specs.Explanations.{Explains, RefusesExplain}
 use Rattle.fffuu_run.specs.Filters.{Filters, RefusesFilter}
+use Rattle.fffuu_run.specs.Loads.{Loads, RefusesLoads}
+use Rattle.fffuu_run.specs.Matrices.{Matrices, RefusesMatrices}
+use Rattle.fffuu_run.specs.Spoofing.{RefusesSpoofs, Spoofs}
 use Rattle.fffuu_run.specs.declared.status.Status.{Status}
+
+-- the text of an IPv4 address, and of an IPv6 one
+abbrev pub ipv4_of : ℕ → List ℕ
+ipv4_of value = ipv4_text (digits_of 256 4 value)
+
+abbrev pub ipv6_of : ℕ → List ℕ
+ipv6_of value = hex_groups_text (digits_of 65536 8 value)
 
 -- `Reads` says which text is one of which address of `W` bits, and `text_of` is the one text that is written for an address
 module _ (W : ℕ) (Reads : List ℕ → ℕ → Type 0) (text_of : ℕ → List ℕ) where
@@ -19,21 +29,20 @@ module _ (W : ℕ) (Reads : List ℕ → ℕ → Type 0) (text_of : ℕ → List
   IsOutput mode.Check name text written = Checks W Reads name text written
   IsOutput mode.Upper name text written = Filters W Reads text_of Side.Upper name text written
   IsOutput mode.Lower name text written = Filters W Reads text_of Side.Lower name text written
+  IsOutput (mode.Matrix service side) name text written = Matrices W Reads text_of side service name text written
+  IsOutput (mode.Spoof claims) name text written = Spoofs W Reads text_of claims name text written
   IsOutput (mode.Explain p) name text written = Explains W Reads name text p written
+  IsOutput (mode.Load n) name text written = Loads ipv4_of name n written
 
   -- why a mode has no output
   abbrev pub RefusesMode : Mode → List ℕ → List ℕ → Status → Type 0
   RefusesMode mode.Check name text s = RefusesCheck W Reads name text s
   RefusesMode mode.Upper name text s = RefusesFilter W Reads text_of Side.Upper name text s
   RefusesMode mode.Lower name text s = RefusesFilter W Reads text_of Side.Lower name text s
+  RefusesMode (mode.Matrix service side) name text s = RefusesMatrices W Reads text_of side service name text s
+  RefusesMode (mode.Spoof claims) name text s = RefusesSpoofs W Reads text_of claims name text s
   RefusesMode (mode.Explain p) name text s = RefusesExplain W Reads name text s
-
--- the text of an IPv4 address, and of an IPv6 one
-abbrev pub ipv4_of : ℕ → List ℕ
-ipv4_of value = ipv4_text (digits_of 256 4 value)
-
-abbrev pub ipv6_of : ℕ → List ℕ
-ipv6_of value = hex_groups_text (digits_of 65536 8 value)
+  RefusesMode (mode.Load n) name text s = RefusesLoads ipv4_of name n s
 
 -- the stated output over the addresses of a family, IPv6 ones where it is true
 abbrev pub IsOutputIn : Bool → Mode → List ℕ → List ℕ → List ℕ → Type 0

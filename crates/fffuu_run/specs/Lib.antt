@@ -1,8 +1,12 @@
 pub mod Counts
 pub mod Checks
+pub mod Questions
 pub mod Explanations
 pub mod Headline
 pub mod Filters
+pub mod Matrices
+pub mod Spoofing
+pub mod Loads
 pub mod Answers
 pub mod Lines
 pub mod Runs

@@ -1,8 +1,10 @@
 -- How a run ends, by its status.
-use Rattle.std.specs.Prelude.{◌≡◌, ◌<◌, ◌≤◌, ◌+◌, ◌++◌, ◌⊎◌, [], ℕ, List, Option, None, Some, length}
+use Rattle.std.specs.Prelude.{◌≡◌, ◌<◌, ◌≤◌, ◌+◌, ◌++◌, ◌⊎◌, [], ℕ, List, Option, length}
 use Rattle.std.specs.Io.KnownBytes.{Appends, Consumes, IsAtEnd}
 use Rattle.fw_io.specs.Causes.{Rose}
 use Rattle.request.specs.Requests.{Spells, chain_in}
+use Rattle.request.specs.declared.types.Mode.{Mode}
+use Rattle.request.specs.declared.types.Mode.TheVariants as mode
 use Rattle.request.specs.declared.types.Request.{Request}
 use Rattle.fffuu_run.specs.Answers.{IsAnswer, Refuses}
 use Rattle.fffuu_run.specs.Lines.{IsBuilt}
@@ -25,6 +27,16 @@ pub record ReadsWhole (old new : Option (List ℕ)) (text : List ℕ) : Type 0 w
   pub taken : Consumes old new text
   pub end : IsAtEnd new
   pub short : length text ≤ most
+
+-- a mode that reads its text
+abbrev pub IsRead : Mode → Type 0
+IsRead (mode.Load n) = ⊥
+IsRead m = Unit {0}
+
+-- what is known of the text that a mode answers to: it is all that the source gave; a load leaves the source as it was, and looks at no text
+abbrev pub Takes : Mode → Option (List ℕ) → Option (List ℕ) → ℕ → ℕ → List ℕ → Type 0
+Takes (mode.Load n) old new before now text = (new ≡ old) × (now ≡ before)
+Takes m old new before now text = ReadsWhole old new text
 
 -- a text that is one byte too long was taken
 pub record ReadsTooMuch (old new : Option (List ℕ)) (text : List ℕ) : Type 0 where
@@ -50,16 +62,16 @@ pub record WritesLine (old new : Option (List ℕ)) (before now : ℕ) (line sen
 
 -- what a status says of a run of a request
 abbrev pub Works : Request → Devices → Devices → Status → Type 0
-Works request old new status.Ok = (text written : List ℕ) × ReadsWhole old.left new.left text
+Works request old new status.Ok = (text written : List ℕ) × Takes request.mode old.left new.left old.read_faults new.read_faults text
     × IsAnswer request text written × Appends old.held new.held written
 Works request old new status.Usage = ⊥
-Works request old new status.ReadFault = Rose old.read_faults new.read_faults × KeepsSink old new
-Works request old new status.InputTooLong = (text : List ℕ) × ReadsTooMuch old.left new.left text × KeepsSink old new
-Works request old new status.WriteFault = (text written sent rest : List ℕ) × ReadsWhole old.left new.left text
+Works request old new status.ReadFault = IsRead request.mode × Rose old.read_faults new.read_faults × KeepsSink old new
+Works request old new status.InputTooLong = IsRead request.mode × (text : List ℕ) × ReadsTooMuch old.left new.left text × KeepsSink old new
+Works request old new status.WriteFault = (text written sent rest : List ℕ) × Takes request.mode old.left new.left old.read_faults new.read_faults text
     × IsAnswer request text written × Rose old.write_faults new.write_faults
     × AppendsPart old.held new.held written sent rest
 Works request old new status.Memory = KeepsSink old new
-Works request old new s = (text : List ℕ) × ReadsWhole old.left new.left text × Refuses request text s × KeepsSink old new
+Works request old new s = (text : List ℕ) × Takes request.mode old.left new.left old.read_faults new.read_faults text × Refuses request text s × KeepsSink old new
 
 -- the statuses with which something may have been written
 abbrev pub Writes : Status → Type 0
@@ -77,15 +89,19 @@ Ends words old new s = (request : Request) × Spells words request × Works requ
 abbrev pub asked_in : List (List ℕ) → List ℕ
 asked_in words = chain_in words
 
--- the one status, or a read that failed, or want of memory
-abbrev pub IsStatus : Status → Status → Type 0
-IsStatus first s = (s ≡ first) ⊎ (s ≡ status.ReadFault) ⊎ (s ≡ status.Memory)
+-- the one status, or in a mode that reads a read that failed, or want of memory
+abbrev pub IsStatus : Mode → Status → Status → Type 0
+IsStatus m first s = (s ≡ first) ⊎ (IsRead m × (s ≡ status.ReadFault)) ⊎ (s ≡ status.Memory)
+
+-- the text isn't too long for a mode that reads it
+abbrev pub IsShort : Mode → List ℕ → Type 0
+IsShort m text = IsRead m → length text ≤ most
 
 -- The status where words spell this request, and this text is all that the source has.
 pub record IsStatusOf (request : Request) (text : List ℕ) (s : Status) : Type 0 where
-  pub too_long : most < length text → IsStatus status.InputTooLong s
-  pub refused : length text ≤ most → (cause : Status) → Refuses request text cause → IsStatus cause s
-  pub ok : length text ≤ most → ((cause : Status) → Refuses request text cause → ⊥) → IsStatus status.Ok s ⊎ (s ≡ status.WriteFault)
+  pub too_long : IsRead request.mode → most < length text → IsStatus request.mode status.InputTooLong s
+  pub refused : IsShort request.mode text → (cause : Status) → Refuses request text cause → IsStatus request.mode cause s
+  pub ok : IsShort request.mode text → ((cause : Status) → Refuses request text cause → ⊥) → IsStatus request.mode status.Ok s ⊎ (s ≡ status.WriteFault)
 
 -- the status, or want of memory in place of one whose line takes memory
 abbrev pub IsReported : Status → Status → Type 0

@@ -1,11 +1,15 @@
 ghost use Rattle.std.specs.Prelude.{◌≡◌, ◌≤◌, ◌⊎◌, ℕ, IfOk, IfErr, length};
 ghost use Rattle.interval_set.specs.Numbers.{IsWidth};
+ghost use Rattle.request.specs.Requests.{HasBounds, width_of};
 ghost use Rattle.fffuu_run.specs.Answers.{IsAnswer, IsOutput, Refuses, RefusesMode};
 
 use crate::Status;
 use crate::checking::check_text;
 use crate::explaining::explain_text;
 use crate::filtering::filter_text;
+use crate::loading::load_summary;
+use crate::matrices::matrix_text;
+use crate::spoofing::spoof_text;
 use addr_text::{Family, V4, V6};
 use closure::Side;
 use request::{Mode, Request};
@@ -18,6 +22,8 @@ fn output<F: Family<W>, const W: u32>(
     text: &[u8],
 ) -> Result<Vec<u8>, Status>
     requires width { IsWidth W }
+    requires family { width_of request.now.six ≡ W }
+    requires bounds { HasBounds request.now.six request.now.mode }
     requires size { length text.now ≤ 16777216 }
     ensures ok { IfOk result (λ written. IsOutput W F.Reads F.text_of request.now.mode request.now.chain text.now written.items) }
     ensures refused { IfErr result (λ s. (s ≡ Status.Memory) ⊎ RefusesMode W F.Reads F.text_of request.now.mode request.now.chain text.now s) }
@@ -27,17 +33,21 @@ fn output<F: Family<W>, const W: u32>(
         Mode::Check => check_text::<F, W>(alloc, name, text),
         Mode::Upper => filter_text::<F, W>(alloc, Side::Upper, name, text),
         Mode::Lower => filter_text::<F, W>(alloc, Side::Lower, name, text),
+        Mode::Matrix { service, side } => matrix_text::<F, W>(alloc, *side, service, name, text),
+        Mode::Spoof(claims) => spoof_text::<F, W>(alloc, claims.as_slice(), name, text),
+        Mode::Load(n) => load_summary(alloc, name, *n),
         Mode::Explain(packet) => explain_text::<F, W>(alloc, name, text, packet),
     }
 }
 
-/// The stated output of a request for a text.
+/// The stated output of a request that some words spell, for a text. A load doesn't look at the text.
 ///
 /// # Errors
 ///
 /// The status of a text that has none, from `Malformed` to `Limit`, or `Memory`.
 pub fn answer(alloc: Global, request: &Request, text: &[u8]) -> Result<Vec<u8>, Status>
-    requires { length text.now ≤ 16777216 }
+    requires size { length text.now ≤ 16777216 }
+    requires bounds { HasBounds request.now.six request.now.mode }
     ensures ok { IfOk result (λ written. IsAnswer request.now text.now written.items) }
     ensures refused { IfErr result (λ s. (s ≡ Status.Memory) ⊎ Refuses request.now text.now s) }
 {

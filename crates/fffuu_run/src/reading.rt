@@ -27,7 +27,7 @@ impl From<AllocError> for ReadError {
     }
 }
 
-// Reads all that there is, up to the most bytes and one past them.
+/// Reads all that there is, up to the most bytes and one past them.
 pub fn read_all<S: Source>(alloc: Global, source: &mut S) -> Result<Vec<u8>, ReadError>
     ensures whole { IfOk result (λ text. ReadsWhole (S.left source.old) (S.left source.new) text.items) }
     ensures failed { IsErrOf result ReadError.Failed → Rose (S.faults source.old) (S.faults source.new) }

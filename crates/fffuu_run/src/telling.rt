@@ -115,7 +115,7 @@ fn tell<E: Sink>(line: &[u8], err: &mut E)
     let _ = write_all(err, line);
 }
 
-// Writes the line of the status on `err`, where the chain of this name was asked about. Where the line finds no memory, that is the status.
+/// Writes the line of the status on `err`, where the chain of this name was asked about. Where the line finds no memory, that is the status.
 pub fn report<E: Sink>(alloc: Global, asked: &[u8], status: Status, err: &mut E) -> Status
     ensures settled { IsReported status result }
     ensures told { (sent rest : List ℕ) × WritesLine (E.held err.old) (E.held err.new) (E.faults err.old) (E.faults err.new)

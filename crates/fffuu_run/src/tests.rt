@@ -195,16 +195,16 @@ fn each_kind_of_limit_has_its_line(rt: HostRuntime) -> Result<(), Fail> {
 fn doubling(alloc: Global, count: u32) -> Result<Vec<u8>, AllocError> {
     let mut text = Vec::from_slice(alloc, b"*filter\n:FORWARD DROP [0:0]\n")?;
     for chain in 1..=count {
-        text.extend_from_slice(format!(in alloc; ":D{chain} - [0:0]\n")?.as_bytes())?;
+        text.extend_from_slice(format!(in alloc; ":N{chain} - [0:0]\n")?.as_bytes())?;
     }
-    text.extend_from_slice(b"-A FORWARD -j D1\n")?;
+    text.extend_from_slice(b"-A FORWARD -j N1\n")?;
     for chain in 1..count {
         let next = chain + 1;
-        let line = format!(in alloc; "-A D{chain} -j D{next}\n")?;
+        let line = format!(in alloc; "-A N{chain} -j N{next}\n")?;
         text.extend_from_slice(line.as_bytes())?;
         text.extend_from_slice(line.as_bytes())?;
     }
-    text.extend_from_slice(format!(in alloc; "-A D{count} -j ACCEPT\nCOMMIT\n")?.as_bytes())?;
+    text.extend_from_slice(format!(in alloc; "-A N{count} -j ACCEPT\nCOMMIT\n")?.as_bytes())?;
     Ok(text)
 }
 
@@ -346,5 +346,40 @@ fn calls_that_double_too_often_are_too_many_visits(rt: HostRuntime) -> Result<()
     assert_eq!(rt; end.status.code(), 11);
     assert_eq!(rt; end.out.held(), b"".as_slice());
     assert_eq!(rt; end.err.held(), b"fffuu: limit visits\n".as_slice());
+    Ok(())
+}
+
+#[test]
+fn a_matrix_has_the_classes_that_its_edges_part(rt: HostRuntime) -> Result<(), Fail> {
+    let input = b"*filter\n\
+:FORWARD DROP [0:0]\n\
+-A FORWARD -s 10.0.0.0/8 -d 192.168.0.1/32 -j ACCEPT\n\
+COMMIT\n";
+    let wanted = b"classes 3\n\
+0 0.0.0.0-9.255.255.255,11.0.0.0-192.168.0.0,192.168.0.2-255.255.255.255\n\
+1 10.0.0.0-10.255.255.255\n\
+2 192.168.0.1\n\
+edges 1\n\
+1 2\n";
+    writes(&rt, rt.alloc(), &["matrix", "tcp:10000:22"], input, wanted)
+}
+
+#[test]
+fn a_rule_of_no_interface_passes_forged_sources(rt: HostRuntime) -> Result<(), Fail> {
+    let input = b"*filter\n:FORWARD DROP [0:0]\n-A FORWARD ! -i eth1 -j ACCEPT\nCOMMIT\n";
+    let words = ["spoof", "eth0=10.0.0.0/8", "eth1=10.0.0.0/8"];
+    let wanted =
+        b"eth0 violated in=eth0 out= src=0.0.0.0 dst=0.0.0.0 proto=0 sport=0 dport=0 flags=NONE state=NEW\n\
+eth1 holds\n";
+    writes(&rt, rt.alloc(), &words, input, wanted)
+}
+
+#[test]
+fn a_load_leaves_the_source_unread(rt: HostRuntime) -> Result<(), Fail> {
+    let end = run_in_pieces(rt.alloc(), &["load", "5"], FILTER, &[1], &[])?;
+    assert_eq!(rt; end.status.code(), 0);
+    assert_eq!(rt; end.source.left(), FILTER);
+    let wanted = b"load 5\nupper rules 2 lines 2\nlower rules 3 lines 4\n";
+    assert_eq!(rt; end.out.held(), wanted.as_slice());
     Ok(())
 }

@@ -3,7 +3,7 @@ ghost use Rattle.fw_io.specs.Causes.{Rose};
 ghost use Rattle.request.specs.Requests.{Spells};
 ghost use Rattle.request.specs.declared.types.Request.{Request as Asked};
 ghost use Rattle.fffuu_run.specs.Lines.{line_of};
-ghost use Rattle.fffuu_run.specs.Runs.{Ends, IsStatusOf, Devices, WritesLine, Writes, asked_in};
+ghost use Rattle.fffuu_run.specs.Runs.{Ends, IsRead, IsStatusOf, Devices, WritesLine, Writes, asked_in};
 
 use crate::Status;
 use crate::telling::report;
@@ -28,6 +28,7 @@ fn answered<S: Source, O: Sink>(
     out: &mut O,
 ) -> Ending
     ensures unread { result.status ≡ Status.Usage → source.new ≡ source.old }
+    ensures unused { (request : Asked) → Spells (map string_bytes words.now.items) request → (IsRead request.mode → ⊥) → source.new ≡ source.old }
     ensures kept { (Writes result.status → ⊥) → out.new ≡ out.old }
     ensures named { result.status ≡ Status.NoChain → result.asked ≡ asked_in (map string_bytes words.now.items) }
     ensures ends { Ends (map string_bytes words.now.items)
@@ -56,16 +57,20 @@ fn answered<S: Source, O: Sink>(
 
 /// Reads the words, then the source to its end, and writes the answer to `out`. A refusal is told in one line on `err`.
 ///
-/// The words are those after the program's name: a mode, `check`, `upper`, `lower` or `explain`, and perhaps
-/// `--chain NAME` and `--family 4` or `--family 6`. The text has at most 16,777,216 bytes. The answer to `check` is a line of counts of its
-/// filter table. To `upper` it is the text of a filter that accepts exactly the valid packets that some truth of the unknown
-/// matches lets the asked chain accept, and to `lower` one that accepts exactly those that every such truth does. To
-/// `explain`, with the fields of a packet, it is how the packet is accepted and how it is dropped.
+/// The words are those after the program's name: a mode, `check`, `upper`, `lower`, `matrix`, `spoof`, `explain` or `load`, its
+/// arguments, and perhaps `--chain NAME`, `--family 4` or `--family 6`, and for a matrix `--side upper` or `--side lower`. The text has
+/// at most 16,777,216 bytes. The answer to `check` is a line of counts of its filter table. To `upper` it is the text of a filter that
+/// accepts exactly the valid packets that some truth of the unknown matches lets the asked chain accept, and to `lower` one that
+/// accepts exactly those that every such truth does. To `matrix`, with a service, it is the partition of all addresses into the
+/// fewest classes by which of them may (or must) be let open the service to which, the tests of interface names counted as unknown.
+/// To `spoof`, with interfaces and the addresses behind each, it is for each of them whether packets from other sources may pass, the tests of
+/// output interfaces counted as unknown. To `explain`, with the fields of a packet, it is how the packet is accepted and how it is
+/// dropped. A load reads nothing: its answer is how large the filters of a generated dump are.
 ///
 /// The refusals in their order; each comes only where none before it does:
 /// - `Usage` exactly where the words spell no request. The source stays unread.
-/// - `ReadFault` only where the source's count of faults rose.
-/// - `InputTooLong` exactly where byte 16,777,217 came before the end. No more than that is taken.
+/// - `ReadFault` only in a mode that reads, and only where the source's count of faults rose.
+/// - `InputTooLong` exactly where a mode reads and byte 16,777,217 came before the end. No more than that is taken.
 /// - `Malformed` exactly where that line is the first outside the grammar.
 /// - `NoFilter` exactly where every line is well formed and no table filter is there.
 /// - `UndefinedChain` exactly where that line is the first rule line of a chain that isn't declared.
@@ -73,8 +78,9 @@ fn answered<S: Source, O: Sink>(
 /// - `Unsupported` exactly where that is the least line of a rule in reach whose target isn't supported.
 /// - `CallLoop` exactly where that is the first declared chain in reach that calls itself over some path.
 /// - `Limit` exactly where the number of that kind is past its limit, and no kind before it is: the chains on a call path for
-///   all modes, then for a filter the items of the rewritten tree, the literals of its flat list, the longest list of cubes,
-///   the simple rules and the printed lines, and for an explanation the visits of rules.
+///   all modes, then for a filter, a matrix and a verdict on sources the items of the rewritten tree, the literals of its flat list, the
+///   longest list of cubes and the simple rules, then for a filter the printed lines, for a matrix the boundaries of address sets, for a
+///   verdict the regions of its search, and for an explanation the visits of rules. For a load each is the greater number of both sides.
 /// - `WriteFault` only where the count of `out` rose. Less than the whole answer went out.
 ///
 /// `Memory` may stand in place of each. After a refusal other than `WriteFault` nothing went out.
@@ -90,8 +96,9 @@ pub fn run<S: Source, O: Sink, E: Sink>(
         (record { left = S.left source.new; read_faults = S.faults source.new; held = O.held out.new; write_faults = O.faults out.new })
         result }
 
-    // After Usage the source, and after each refusal but a failed write the sink, is the one that it was.
+    // After Usage and in a load the source, and after each refusal but a failed write the sink, is the one that it was.
     ensures unread { result ≡ Status.Usage → source.new ≡ source.old }
+    ensures unused { (request : Asked) → Spells (map string_bytes words.now.items) request → (IsRead request.mode → ⊥) → source.new ≡ source.old }
     ensures kept { (Writes result → ⊥) → out.new ≡ out.old }
 
     // A front of the status's line stands on `err`, all of it where no write there failed.

@@ -1,29 +1,48 @@
-ghost use Rattle.std.specs.Prelude.{◌≡◌};
-ghost use Rattle.fffuu_run.specs.Runs.{Devices, Works, Writes};
+ghost use Rattle.std.specs.Prelude.{◌≡◌, ◌≤◌, ℕ, List, IfOk, IsErrOf, length};
+ghost use Rattle.fw_io.specs.Causes.{Rose};
+ghost use Rattle.request.specs.Requests.{HasBounds};
+ghost use Rattle.fffuu_run.specs.Runs.{Devices, IsRead, ReadsTooMuch, Takes, Works, Writes};
 
 use crate::Status;
 use crate::answering::answer;
 use crate::reading::{ReadError, read_all};
 use crate::writing::write_all;
 use fw_io::{Sink, Source};
-use request::Request;
+use request::{Mode, Request};
 use std::alloc::Global;
 
-// Reads all there is, and writes the answer to it and nothing else.
+// The text that a mode answers to: all that the source gives, and for a load, which reads nothing, an empty one.
+fn text_for<S: Source>(alloc: Global, mode: &Mode, source: &mut S) -> Result<Vec<u8>, ReadError>
+    ensures takes { IfOk result (λ text. Takes mode.now (S.left source.old) (S.left source.new) (S.faults source.old) (S.faults source.new) text.items) }
+    ensures size { IfOk result (λ text. length text.items ≤ 16777216) }
+    ensures unread { (IsRead mode.now → ⊥) → source.new ≡ source.old }
+    ensures failed { IsErrOf result ReadError.Failed → IsRead mode.now × Rose (S.faults source.old) (S.faults source.new) }
+    ensures too_long { IsErrOf result ReadError.TooLong
+        → IsRead mode.now × ((text : List ℕ) × ReadsTooMuch (S.left source.old) (S.left source.new) text) }
+{
+    match mode {
+        Mode::Load(_) => Ok(Vec::new(alloc)),
+        _ => read_all(alloc, source),
+    }
+}
+
+/// Reads all there is where the mode reads, and writes the answer and nothing else.
 pub fn work<S: Source, O: Sink>(
     alloc: Global,
     request: &Request,
     source: &mut S,
     out: &mut O,
 ) -> Status
+    requires { HasBounds request.now.six request.now.mode }
     ensures used { result ≡ Status.Usage → ⊥ }
     ensures kept { (Writes result → ⊥) → out.new ≡ out.old }
+    ensures unread { (IsRead request.now.mode → ⊥) → source.new ≡ source.old }
     ensures works { Works request.now
         (record { left = S.left source.old; read_faults = S.faults source.old; held = O.held out.old; write_faults = O.faults out.old })
         (record { left = S.left source.new; read_faults = S.faults source.new; held = O.held out.new; write_faults = O.faults out.new })
         result }
 {
-    let text = match read_all(alloc, source) {
+    let text = match text_for(alloc, &request.mode, source) {
         Ok(text) => text,
         Err(ReadError::Failed) => return Status::ReadFault,
         Err(ReadError::TooLong) => return Status::InputTooLong,

@@ -5,7 +5,7 @@ ghost use Rattle.fffuu_run.specs.Runs.{AppendsPart};
 
 use fw_io::{Failed, Sink};
 
-// Writes the whole text, or up to the first fault. What the sink leaves of it is offered again.
+/// Writes the whole text, or up to the first fault. What the sink leaves of it is offered again.
 pub fn write_all<O: Sink>(out: &mut O, text: &[u8]) -> Result<(), Failed>
     ensures ok { OnOk result (Appends (O.held out.old) (O.held out.new) text.now) }
     ensures part { OnErr result ((sent rest : List ℕ) × AppendsPart (O.held out.old) (O.held out.new) text.now sent rest) }

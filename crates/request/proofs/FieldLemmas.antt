@@ -1,5 +1,5 @@
 -- The values that arguments give to a field, one argument after the other.
-use Rattle.std.proofs.Common.{◌≡◌, ◌∙◌, ◌++◌, ◌+◌, ◌<◌, ◌≤◌, refl, sym, ap, ℕ, List, [], ◌∷◌, Option, None, Some, Bor, arith, map, take, drop, length, get_or, take-append-drop, append-nil, Bool, true, false, subst, option_map}
+use Rattle.std.proofs.Common.{◌≡◌, ◌∙◌, ◌++◌, ◌+◌, ◌<◌, ◌≤◌, refl, sym, ap, ℕ, List, [], ◌∷◌, Option, None, Some, Bor, map, take, drop, length, get_or, take-append-drop, append-nil, true, false, subst, option_map}
 use Rattle.std.proofs.lemmas.List.{map-append, take_all, take_more}
 use Rattle.std.proofs.lemmas.List.Elements.{filter_map-append}
 use Rattle.std.specs.List.{cons_option}

@@ -1,19 +1,23 @@
 -- Words spell one request at most.
-use Rattle.std.proofs.Common.{◌≡◌, ◌∙◌, ◌≤◌, ◌<◌, ◌^◌, ℕ, List, [], ◌∷◌, Bool, true, false, Option, None, Some, refl, sym, ap, subst, arith, codes}
+use Rattle.std.proofs.Common.{◌≡◌, ◌∙◌, ℕ, List, [], ◌∷◌, Bool, true, false, Some, refl, sym, ap, subst, arith, codes, decimal}
 use Rattle.std.specs.Prelude.{if◌then◌else◌}
 use Rattle.std.specs.Str.{bytes_eq}
 use Rattle.std.proofs.lemmas.Fmt.{decimal_injective}
-use Rattle.addr_text.specs.Ipv4Laws.{ipv4_fits, ipv4_one}
-use Rattle.addr_text.specs.Ipv6Laws.{ipv6_fits, ipv6_one}
+use Rattle.addr_text.specs.Ipv4Laws.{ipv4_one}
+use Rattle.addr_text.specs.Ipv6Laws.{ipv6_one}
+use Rattle.closure.specs.declared.sides.Side.{Side}
 use Rattle.primitives.specs.declared.prim.Packet.{Packet}
 use Rattle.primitives.specs.Words.{SpellsFlags, SpellsProto}
 use Rattle.clap.specs.Words.{Text}
+use Rattle.service_packet.specs.declared.service.Service.{Service}
 use Rattle.request.specs.declared.types.Mode.{Mode}
 use Rattle.request.specs.declared.types.Mode.TheVariants as mode
 use Rattle.request.specs.declared.types.Request.{Request}
-use Rattle.request.specs.Fields.{Given, IsAsked, SaysAddress, SaysName, SaysPort, SaysState, values_of}
-use Rattle.request.specs.Names.{name_of}
-use Rattle.request.specs.Requests.{Asks, Parts, Spells, Suits, parts_in, six_of, width_of, word_of}
+use Rattle.request.specs.Arguments.{IsService}
+use Rattle.request.specs.Fields.{Given, IsAsked, SaysAddress, SaysName, SaysPort, SaysState}
+use Rattle.request.specs.Requests.{Asks, AsksLoad, AsksMatrix, Parts, Spells, Suits, word_of}
+use Rattle.request.proofs.ClaimLemmas.{claims_once}
+use Rattle.request.proofs.ServiceLemmas.{port_once, service_once, side_once}
 use Rattle.request.proofs.WordLemmas.{flags_once, proto_once}
 
 -- a value says one thing
@@ -33,9 +37,6 @@ names_once value x y p q = let e : Some x ≡ Some y = sym p ∙ q in cc
 addresses_once : (six : Bool) → Once (SaysAddress six)
 addresses_once false value x y p q = ipv4_one value x y p q
 addresses_once true value x y p q = ipv6_one value x y p q
-
-ports_once : Once SaysPort
-ports_once value x y p q = let a = p.0 in let b = q.0 in decimal_injective x y (omega (arith, a)) (omega (arith, b)) (sym p.1 ∙ q.1)
 
 states_once : Once SaysState
 states_once value x y p q = let e : Some x ≡ Some y = sym p ∙ q in cc
@@ -61,8 +62,8 @@ packet_once six arguments p q a b = same_packet p q
     (given_once (SaysAddress six) 0 (addresses_once six) _ _ _ a.src b.src)
     (given_once (SaysAddress six) 0 (addresses_once six) _ _ _ a.dst b.dst)
     (given_once SpellsProto 0 proto_once _ _ _ a.proto b.proto)
-    (given_once SaysPort 0 ports_once _ _ _ a.sport b.sport)
-    (given_once SaysPort 0 ports_once _ _ _ a.dport b.dport)
+    (given_once SaysPort 0 port_once _ _ _ a.sport b.sport)
+    (given_once SaysPort 0 port_once _ _ _ a.dport b.dport)
     (given_once SpellsFlags 0 flags_once _ _ _ a.flags b.flags)
     (given_once SaysState 1 states_once _ _ _ a.state b.state)
 
@@ -71,23 +72,47 @@ index_of : Text → ℕ
 index_of word = if bytes_eq word (codes "check") then 0
     else if bytes_eq word (codes "upper") then 1
     else if bytes_eq word (codes "lower") then 2
-    else 3
+    else if bytes_eq word (codes "matrix") then 3
+    else if bytes_eq word (codes "spoof") then 4
+    else if bytes_eq word (codes "explain") then 5
+    else 6
 
 index : Mode → ℕ
 index mode.Check = 0
 index mode.Upper = 1
 index mode.Lower = 2
-index (mode.Explain p) = 3
+index (mode.Matrix service side) = 3
+index (mode.Spoof claims) = 4
+index (mode.Explain p) = 5
+index (mode.Load count) = 6
 
 index_is : (m : Mode) → index_of (word_of m) ≡ index m
 unfolding index index_of
 index_is mode.Check = refl
 index_is mode.Upper = refl
 index_is mode.Lower = refl
+index_is (mode.Matrix service side) = refl
+index_is (mode.Spoof claims) = refl
 index_is (mode.Explain p) = refl
+index_is (mode.Load count) = refl
 
 same_index : (m n : Mode) → word_of m ≡ word_of n → index m ≡ index n
 same_index m n e = sym (index_is m) ∙ ap index_of e ∙ index_is n
+
+-- the one argument is one service, and the side is one
+matrix_once : (parts : Parts) (a b : Service) (x y : Side) → AsksMatrix parts a x → AsksMatrix parts b y → mode.Matrix a x ≡ mode.Matrix b y
+matrix_once parts a b x y (arg, (is, p, side)) (arg', (is', q, side')) =
+    let args : arg ∷ [] ≡ arg' ∷ [] = sym is ∙ is' in
+    let same : arg' ≡ arg = cc in
+    let service : a ≡ b = service_once arg a b p (subst (λ (t : Text). IsService t b) same q) in
+    let sides : x ≡ y = side_once parts.side x y side side' in
+    cc
+
+load_once : (parts : Parts) (m n : ℕ) → AsksLoad parts m → AsksLoad parts n → m ≡ n
+load_once parts m n (low, small, is, side, chain, family) (low', small', is', side', chain', family') =
+    let args : decimal m ∷ [] ≡ decimal n ∷ [] = sym is ∙ is' in
+    let same : decimal m ≡ decimal n = cc in
+    decimal_injective m n (omega (arith, small)) (omega (arith, small')) same
 
 mode_once : (six : Bool) (parts : Parts) (m n : Mode) → word_of m ≡ word_of n → Suits six parts m → Suits six parts n → m ≡ n
 unfolding index
@@ -99,6 +124,12 @@ mode_once six parts mode.Lower mode.Lower e a b = refl
 mode_once six parts mode.Lower n e a b = let f = same_index mode.Lower n e in absurd (omega (arith, f))
 mode_once six parts (mode.Explain p) (mode.Explain q) e a b = ap mode.Explain (packet_once six parts.args p q a.1 b.1)
 mode_once six parts (mode.Explain p) n e a b = let f = same_index (mode.Explain p) n e in absurd (omega (arith, f))
+mode_once six parts (mode.Matrix service side) (mode.Matrix service' side') e a b = matrix_once parts service service' side side' a b
+mode_once six parts (mode.Matrix service side) n e a b = let f = same_index (mode.Matrix service side) n e in absurd (omega (arith, f))
+mode_once six parts (mode.Spoof claims) (mode.Spoof claims') e a b = ap mode.Spoof (claims_once six parts.args claims claims' a.2 b.2)
+mode_once six parts (mode.Spoof claims) n e a b = let f = same_index (mode.Spoof claims) n e in absurd (omega (arith, f))
+mode_once six parts (mode.Load count) (mode.Load count') e a b = ap mode.Load (load_once parts count count' a b)
+mode_once six parts (mode.Load count) n e a b = let f = same_index (mode.Load count) n e in absurd (omega (arith, f))
 
 same_request : (r s : Request) → r.mode ≡ s.mode → r.chain ≡ s.chain → r.six ≡ s.six → r ≡ s
 same_request r s a b c = λ i. record { mode = a i; chain = b i; six = c i }

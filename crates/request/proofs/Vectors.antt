@@ -1,5 +1,5 @@
 -- The definition on words that are written out.
-use Rattle.std.proofs.Common.{◌≡◌, ◌==◌, refl, Bool, true, false, not, List, [], ◌∷◌, Option, Some, None, codes, is_some}
+use Rattle.std.proofs.Common.{◌≡◌, ◌==◌, refl, Bool, true, not, List, [], ◌∷◌, Option, Some, None, codes, is_some}
 use Rattle.std.specs.List.{list_all, slice_split}
 use Rattle.clap.specs.Words.{Text}
 use Rattle.clap.proofs.OnLiterals.{clap_on_literals}

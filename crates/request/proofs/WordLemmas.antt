@@ -16,7 +16,7 @@ same_word : (word : Named) (text : List ℕ) (n : ℕ) → word.name ≡ text �
 same_word word text n e f = λ i. record { name = e i; number = f i }
 
 -- what each word of a list passes, a text and its number pass
-number_passes : (p : Named → Bool) (words : List Named) (text : List ℕ) (n : ℕ) → list_all p words ≡ true → number_in words text ≡ Some n → p (stands_for text n) ≡ true
+pub number_passes : (p : Named → Bool) (words : List Named) (text : List ℕ) (n : ℕ) → list_all p words ≡ true → number_in words text ≡ Some n → p (stands_for text n) ≡ true
 number_passes p [] text n h is = cc
 number_passes p (word ∷ words) text n h is = by_cases (bytes_eq word.name text) refl (λ k. number_passes p words text n (grind (arith, h)) k) is
   where

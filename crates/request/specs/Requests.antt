@@ -1,13 +1,23 @@
 -- Which words spell which request.
-use Rattle.std.specs.Prelude.{ℕ, ◌≡◌, List, [], ◌∷◌, Option, Some, None, Bool, true, false, unwrap_or, codes, if◌then◌else◌, option_map}
+use Rattle.std.specs.Prelude.{ℕ, ◌≡◌, ◌≢◌, ◌≤◌, ◌-◌, ◌^◌, List, [], ◌∷◌, Option, Some, None, Bool, true, false, unwrap_or, codes, decimal, if◌then◌else◌, option_map}
+use Rattle.std.specs.List.{AllByRecursion}
 use Rattle.std.specs.Str.{bytes_eq}
 use Rattle.clap.specs.Words.{Row, Text, Kinds, all_of, first_of}
+use Rattle.interval_set.specs.declared.set.Range.{Range}
 use Rattle.primitives.specs.Holds.{IsValid}
+use Rattle.closure.specs.declared.sides.Side.{Side}
+use Rattle.service_packet.specs.declared.service.Service.{Service}
 use Rattle.request.specs.CommandLine.{faults_in, rows_in}
-use Rattle.request.specs.Fields.{IsAsked}
+use Rattle.request.specs.Arguments.{AreClaims, IsService, IsSide}
+use Rattle.request.specs.Fields.{IsAsked, SaysAddress}
 use Rattle.request.specs.declared.types.Mode.{Mode}
 use Rattle.request.specs.declared.types.Mode.TheVariants as mode
 use Rattle.request.specs.declared.types.Request.{Request}
+
+-- the bits of an address
+abbrev pub width_of : Bool → ℕ
+width_of false = 32
+width_of true = 128
 
 -- the parts of a command line that clap takes
 pub record Parts : Type 0 where
@@ -31,17 +41,32 @@ abbrev pub word_of : Mode → Text
 word_of mode.Check = codes "check"
 word_of mode.Upper = codes "upper"
 word_of mode.Lower = codes "lower"
+word_of (mode.Matrix service side) = codes "matrix"
+word_of (mode.Spoof claims) = codes "spoof"
 word_of (mode.Explain p) = codes "explain"
+word_of (mode.Load count) = codes "load"
 
 -- no arguments and no side
 abbrev pub StandsAlone : Parts → Type 0
 StandsAlone parts = (parts.args ≡ []) × (parts.side ≡ None)
+
+-- one argument, which is the service, and the side
+abbrev pub AsksMatrix : Parts → Service → Side → Type 0
+AsksMatrix parts service side = (arg : Text) × ((parts.args ≡ arg ∷ []) × IsService arg service × IsSide parts.side side)
+
+-- a number from 1 to 1000 alone, and no option
+abbrev pub AsksLoad : Parts → ℕ → Type 0
+AsksLoad parts count = (1 ≤ count) × (count ≤ 1000) × (parts.args ≡ decimal count ∷ []) × (parts.side ≡ None) × (parts.chain ≡ None)
+    × (parts.family ≡ None)
 
 -- what else a mode wants of the parts, over IPv6 addresses where the first argument is true and over IPv4 ones else
 abbrev pub Suits : Bool → Parts → Mode → Type 0
 Suits six parts mode.Check = StandsAlone parts
 Suits six parts mode.Upper = StandsAlone parts
 Suits six parts mode.Lower = StandsAlone parts
+Suits six parts (mode.Matrix service side) = AsksMatrix parts service side
+Suits six parts (mode.Spoof claims) = (parts.side ≡ None) × (claims ≢ []) × AreClaims (SaysAddress six) (width_of six) parts.args claims
+Suits six parts (mode.Load count) = AsksLoad parts count
 Suits six parts (mode.Explain p) = (parts.side ≡ None) × IsAsked six parts.args p
 
 -- whether addresses are IPv6 ones, by the family's text: IPv4 ones where none is given
@@ -83,12 +108,13 @@ SpellsOnce words = (r s : Request) → Spells words r → Spells words s → r �
 abbrev pub chain_in : List Text → Text
 chain_in words = unwrap_or (option_map chain_of (parts_in words)) []
 
--- the bits of an address
-abbrev pub width_of : Bool → ℕ
-width_of false = 32
-width_of true = 128
+-- a range of addresses of w bits, which isn't empty
+abbrev pub IsRange : ℕ → Range → Type 0
+IsRange w r = (r.lo ≤ r.hi) × (r.hi ≤ 2 ^ w - 1)
 
--- a mode's packet is one of the family's addresses
-abbrev pub HasValidPacket : Bool → Mode → Type 0
-HasValidPacket six (mode.Explain p) = IsValid (width_of six) p
-HasValidPacket six m = Unit {0}
+-- what the arguments of a mode are known to be: a packet and ranges of the family's addresses, and a number from 1 to 1000
+abbrev pub HasBounds : Bool → Mode → Type 0
+HasBounds six (mode.Explain p) = IsValid (width_of six) p
+HasBounds six (mode.Spoof claims) = AllByRecursion (λ claim. AllByRecursion (IsRange (width_of six)) claim.inside) claims
+HasBounds six (mode.Load count) = (1 ≤ count) × (count ≤ 1000)
+HasBounds six m = Unit {0}

@@ -132,7 +132,8 @@ pub fn protocol(field: &[u8], arguments: &[&str]) -> Result<u8, SpellFault>
     }
 }
 
-fn read_port(value: &[u8]) -> Option<u16>
+/// The port of a value, a number to 65535. `None` exactly where the value is no such number.
+pub fn read_port(value: &[u8]) -> Option<u16>
     ensures some { IfSome result (SaysPort value.now) }
     ensures none { IfNone result ((port : ℕ) → SaysPort value.now port → ⊥) }
 {

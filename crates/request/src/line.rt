@@ -1,13 +1,20 @@
-ghost use Rattle.std.specs.Prelude.{◌≡◌, [], IfOk, IsErrOf, OnErr, map, option_map, unwrap_or};
-ghost use Rattle.clap.specs.Words.{found_of, rows_of};
+ghost use Rattle.std.specs.Prelude.{◌≡◌, ℕ, List, [], ◌∷◌, IfOk, IfSome, IfNone, IsErrOf, OnErr, map, option_map, unwrap_or};
+ghost use Rattle.clap.specs.Words.{Text, found_of, rows_of};
+ghost use Rattle.closure.specs.declared.sides.Side.{Side as AnySide};
 ghost use Rattle.primitives.specs.declared.prim.Packet.{Packet as Asked};
+ghost use Rattle.service_packet.specs.declared.service.Service.{Service as AnyService};
+ghost use Rattle.request.specs.declared.types.Claim.{Claim as AnyClaim};
 ghost use Rattle.request.specs.declared.types.Mode.{Mode as AnyMode};
 ghost use Rattle.request.specs.declared.types.Mode.TheVariants as mode;
-ghost use Rattle.request.specs.Requests.{HasValidPacket, StandsAlone, Suits, parts_of, six_of, word_of};
+ghost use Rattle.request.specs.Requests.{HasBounds, AsksLoad, AsksMatrix, StandsAlone, Suits, parts_of, six_of, word_of};
 ghost use Rattle.request.specs.Lines.{line_parts};
 
+use crate::claims::claims_of;
 use crate::packets::packet_of;
+use crate::services::service_of;
+use crate::sides::side_of;
 use crate::{Mode, SpellFault};
+use addr_text::read_number;
 use clap::ArgMatches;
 use std::alloc::{AllocError, Global};
 
@@ -62,13 +69,62 @@ fn alone(mode: Mode, line: &Line<'_>) -> Result<Mode, SpellFault>
 
 // The packet of the arguments, where no side is given.
 fn explain(alloc: Global, six: bool, line: &Line<'_>) -> Result<Mode, SpellFault>
-    ensures ok { IfOk result (λ m. (p : Asked) × (m ≡ mode.Explain p) × Suits six (line_parts line.now) m × HasValidPacket six m) }
+    ensures ok { IfOk result (λ m. (p : Asked) × (m ≡ mode.Explain p) × Suits six (line_parts line.now) m × HasBounds six m) }
     ensures usage { IsErrOf result SpellFault.Usage → (p : Asked) → Suits six (line_parts line.now) (mode.Explain p) → ⊥ }
 {
     if line.side.is_some() {
         return Err(SpellFault::Usage);
     }
     Ok(Mode::Explain(packet_of(alloc, six, &line.args)?))
+}
+
+// The argument that stands alone. `None` where there are none or more.
+fn lone<'a>(arguments: &[&'a str]) -> Option<&'a str>
+    ensures some { IfSome result (λ s. map (λ a. a.now) arguments.now ≡ s.now ∷ []) }
+    ensures none { IfNone result ((text : Text) → map (λ a. a.now) arguments.now ≡ text ∷ [] → ⊥) }
+{
+    match arguments {
+        [argument] => Some(argument),
+        _ => None,
+    }
+}
+
+// The matrix of the one argument, on the side of the line.
+fn matrix(line: &Line<'_>) -> Option<Mode>
+    ensures some { IfSome result (λ m. (service : AnyService) × (side : AnySide) × (m ≡ mode.Matrix service side) × AsksMatrix (line_parts line.now) service side) }
+    ensures none { IfNone result ((service : AnyService) (side : AnySide) → AsksMatrix (line_parts line.now) service side → ⊥) }
+{
+    let argument = lone(&line.args)?;
+    let service = service_of(argument.as_bytes())?;
+    let side = side_of(line.side)?;
+    Some(Mode::Matrix { service, side })
+}
+
+// The claims of the arguments, where there are some and no side is given.
+fn spoof(alloc: Global, six: bool, line: &Line<'_>) -> Result<Mode, SpellFault>
+    ensures ok { IfOk result (λ m. (claims : List AnyClaim) × (m ≡ mode.Spoof claims) × Suits six (line_parts line.now) m) }
+    ensures usage { IsErrOf result SpellFault.Usage → (claims : List AnyClaim) → Suits six (line_parts line.now) (mode.Spoof claims) → ⊥ }
+{
+    if line.side.is_some() || line.args.is_empty() {
+        return Err(SpellFault::Usage);
+    }
+    Ok(Mode::Spoof(claims_of(alloc, six, &line.args)?))
+}
+
+// The number of rules, where no option is given.
+fn load(line: &Line<'_>) -> Option<Mode>
+    ensures some { IfSome result (λ m. (count : ℕ) × (m ≡ mode.Load count) × AsksLoad (line_parts line.now) count) }
+    ensures none { IfNone result ((count : ℕ) → AsksLoad (line_parts line.now) count → ⊥) }
+{
+    if line.side.is_some() || line.chain.is_some() || line.family.is_some() {
+        return None;
+    }
+    let argument = lone(&line.args)?;
+    let count = read_number(argument.as_bytes(), 1000)?;
+    if count == 0 {
+        return None;
+    }
+    Some(Mode::Load(count))
 }
 
 /// The mode of this name, with the arguments of the line, over IPv6 addresses where `six` is true.
@@ -79,7 +135,7 @@ fn explain(alloc: Global, six: bool, line: &Line<'_>) -> Result<Mode, SpellFault
 pub fn mode(alloc: Global, name: &str, six: bool, line: &Line<'_>) -> Result<Mode, SpellFault>
     ensures word { IfOk result (λ m. name.now ≡ word_of m) }
     ensures suits { IfOk result (Suits six (line_parts line.now)) }
-    ensures valid { IfOk result (HasValidPacket six) }
+    ensures valid { IfOk result (HasBounds six) }
     ensures usage { IsErrOf result SpellFault.Usage → (m : AnyMode) → name.now ≡ word_of m → Suits six (line_parts line.now) m → ⊥ }
 {
     if name == "check" {
@@ -88,8 +144,14 @@ pub fn mode(alloc: Global, name: &str, six: bool, line: &Line<'_>) -> Result<Mod
         alone(Mode::Upper, line)
     } else if name == "lower" {
         alone(Mode::Lower, line)
+    } else if name == "matrix" {
+        matrix(line).ok_or(SpellFault::Usage)
+    } else if name == "spoof" {
+        spoof(alloc, six, line)
     } else if name == "explain" {
         explain(alloc, six, line)
+    } else if name == "load" {
+        load(line).ok_or(SpellFault::Usage)
     } else {
         Err(SpellFault::Usage)
     }

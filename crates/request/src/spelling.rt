@@ -1,5 +1,5 @@
 ghost use Rattle.std.specs.Prelude.{◌≡◌, IfOk, IsErrOf, map, string_bytes};
-ghost use Rattle.request.specs.Requests.{Asks, HasValidPacket, Spells, chain_in};
+ghost use Rattle.request.specs.Requests.{Asks, HasBounds, Spells, chain_in};
 ghost use Rattle.request.specs.Lines.{line_parts};
 ghost use Rattle.request.specs.declared.types.Request.{Request as Asked};
 
@@ -12,7 +12,7 @@ use std::alloc::Global;
 // The request that the parts of a command line are.
 fn request_of(alloc: Global, line: &Line<'_>) -> Result<Request, SpellFault>
     ensures ok { IfOk result (Asks (line_parts line.now)) }
-    ensures valid { IfOk result (λ r. HasValidPacket r.six r.mode) }
+    ensures valid { IfOk result (λ r. HasBounds r.six r.mode) }
     ensures usage { IsErrOf result SpellFault.Usage → (r : Asked) → Asks (line_parts line.now) r → ⊥ }
 {
     let Some(name) = line.mode else {
@@ -43,7 +43,7 @@ fn request_of(alloc: Global, line: &Line<'_>) -> Result<Request, SpellFault>
 pub fn spell(alloc: Global, words: &Vec<String>) -> Result<Request, SpellFault>
     ensures ok { IfOk result (λ r. Spells (map string_bytes words.now.items) r) }
     ensures chain { IfOk result (λ r. r.chain ≡ chain_in (map string_bytes words.now.items)) }
-    ensures valid { IfOk result (λ r. HasValidPacket r.six r.mode) }
+    ensures valid { IfOk result (λ r. HasBounds r.six r.mode) }
     ensures usage { IsErrOf result SpellFault.Usage → (r : Asked) → Spells (map string_bytes words.now.items) r → ⊥ }
 {
     let matches = matches_in(alloc, words.as_slice())?;

@@ -1,9 +1,12 @@
 ghost use Rattle.std.specs.Prelude.{◌≡◌};
 ghost use Rattle.request.specs.declared.types.SpellFault.TheVariants.{Memory};
 
-use match_expr::Bytes;
+use closure::Side;
+use interval_set::Range;
+use match_expr::{Bytes, List};
 use primitives::Packet;
-use std::alloc::AllocError;
+use service_packet::Service;
+use std::alloc::{AllocError, AllocFailed};
 use thiserror::Error;
 
 /// What is asked of a filter.
@@ -15,8 +18,28 @@ pub enum Mode {
     Upper,
     /// A filter that accepts what a chain must accept.
     Lower,
+    /// Which addresses may open a service to which.
+    Matrix {
+        /// The service.
+        service: Service,
+        /// Whether an edge stands where its packet may be accepted, or where it must be.
+        side: Side,
+    },
+    /// Whether packets with forged sources may pass interfaces: each of these with the addresses that live behind it.
+    Spoof(List<Claim>),
     /// For this packet the meanings of two walks of a chain, one that accepts it and one that drops it.
     Explain(Packet),
+    /// How large the filters of a generated dump of so many rules are, from 1 to 1000.
+    Load(u32),
+}
+
+/// That the addresses behind an interface are these.
+#[derive(Drop)]
+pub struct Claim {
+    /// The name of the interface.
+    pub name: Bytes,
+    /// Ranges of addresses, as they were given.
+    pub inside: List<Range>,
 }
 
 /// What a command line asks for.
@@ -45,6 +68,14 @@ impl From<AllocError> for SpellFault {
     ghost from_gives = { λ _ e. e ≡ Memory };
 
     fn from(_: AllocError) -> Self {
+        SpellFault::Memory
+    }
+}
+
+impl<T: Drop> From<AllocFailed<T>> for SpellFault {
+    ghost from_gives = { λ _ e. e ≡ Memory };
+
+    fn from(_: AllocFailed<T>) -> Self {
         SpellFault::Memory
     }
 }

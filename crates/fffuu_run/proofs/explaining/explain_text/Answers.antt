@@ -1,4 +1,4 @@
-use Rattle.std.proofs.Common.{◌≡◌, ◌<◌, ◌≤◌, ℕ, refl, inl, inr, arith}
+use Rattle.std.proofs.Common.{refl, inr}
 use Rattle.fffuu_run.proofs.VisitLemmas.{explains_of, many_visits, not_more}
 use Rattle.fffuu_run.proofs.explaining.explain_text.Goals as goal
 

@@ -1,4 +1,4 @@
-use Rattle.std.proofs.Common.{◌≡◌, ◌∙◌, ◌++◌, sym, ap, ℕ, List, arith, codes}
+use Rattle.std.proofs.Common.{arith}
 use Rattle.fw_text.proofs.StepLemmas.{steps_first, steps_more}
 use Rattle.fw_text.proofs.places.steps_of.Goals as goal
 use Rattle.fw_text.proofs.places.steps_of.Goals.{then-i-gt0+in_ok-extend_from_slice, else-i-gt0}

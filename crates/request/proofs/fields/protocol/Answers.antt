@@ -1,5 +1,4 @@
-use Rattle.std.proofs.Common.{◌≡◌, ◌∙◌, sym, ap, ℕ, List, Option, Some, None, [], ◌∷◌}
-use Rattle.std.specs.Option.{option_to_list}
+use Rattle.std.proofs.Common.{◌∙◌, ap}
 use Rattle.primitives.specs.Words.{SpellsProto}
 use Rattle.request.proofs.FieldLemmas.{not_said, texts_in}
 use Rattle.request.proofs.fields.protocol.Goals as goal

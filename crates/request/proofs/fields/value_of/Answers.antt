@@ -1,5 +1,4 @@
-use Rattle.std.proofs.Common.{◌≡◌, ◌∙◌, sym, ap, List, ℕ, [], ◌∷◌, Option, Some, None, option_map, Bor, arith, true, false, is_some}
-use Rattle.std.specs.Option.{option_to_list}
+use Rattle.std.proofs.Common.{◌∙◌, sym}
 use Rattle.request.proofs.FieldLemmas.{first_kept, no_values, none_more, second_found, step}
 use Rattle.request.proofs.fields.value_of.Goals as goal
 use Rattle.request.proofs.fields.value_of.Goals.{in-Some+else-is_some, in_default}

@@ -1,6 +1,5 @@
-use Rattle.std.proofs.Common.{◌≡◌, ◌∙◌, ◌≤◌, ◌++◌, ℕ, List, Option, Some, sym, ap, subst, ◌∷◌, [], length, arith}
-use Rattle.request.specs.Names.{bytes_of}
-use Rattle.request.proofs.NameLemmas.{bytes_before, pair_step}
+use Rattle.std.proofs.Common.{◌∙◌, ◌≤◌, sym, length, arith}
+use Rattle.request.proofs.NameLemmas.{pair_step}
 use Rattle.request.proofs.names.bytes_of.Goals as goal
 
 pub loop-rest-preserved : goal.loop-rest-preserved

@@ -1,7 +1,7 @@
 use Rattle.std.proofs.Common.{◌≡◌, List, None, Some, get_or, subst}
 use Rattle.fw_rule.specs.declared.rule.Chain.{Chain}
 use Rattle.fffuu_run.proofs.FilterLemmas.{chain_is, has_policy}
-use Rattle.fffuu_run.proofs.filtering.policy_of.Goals as goal
+use Rattle.fffuu_run.proofs.dumps.policy_of.Goals as goal
 
 pub unreachable-requires : goal.unreachable-requires
 unreachable-requires g c =

@@ -1,0 +1,179 @@
+-- Searches that answer stay within their limit, and what a chain's verdicts on claims are.
+use Rattle.std.proofs.Common.{◌≡◌, ◌∙◌, ◌⊎◌, ◌<◌, ◌^◌, ◌-◌, ℕ, List, [], ◌∷◌, ◌++◌, Bool, true, false, ◌&&◌, ◌||◌, append-nil, append_assoc, refl, inl, inr, arith, ap, sym, subst, length, get_or, take, add-one, ◌+◌}
+use Rattle.std.proofs.Math.Seq.{take-suc}
+use Rattle.std.specs.List.{AllByRecursion}
+use Rattle.std.proofs.lemmas.Bool.Decides.{nat_tests}
+use Rattle.interval_set.specs.declared.set.Range.{Range}
+use Rattle.interval_set.specs.Numbers.{IsWidth, has}
+use Rattle.interval_set.specs.Spelling.{set_or}
+use Rattle.interval_set.proofs.Lists.{has-snoc}
+use Rattle.interval_set.proofs.Spelling.{or_has, power, spelled, where_ascends, where_has}
+use Rattle.primitives.specs.declared.prim.Packet.{Packet}
+use Rattle.primitives.specs.declared.prim.Prim_.{Prim_}
+use Rattle.primitives.specs.Holds.{IsValid}
+use Rattle.fw_rule.specs.declared.rule.Dump.{Dump}
+use Rattle.fw_rule.specs.declared.rule.Verdict.{Verdict}
+use Rattle.box_norm.specs.declared.cube.Cube.{Cube}
+use Rattle.box_norm.specs.declared.cube.SimpleRule.{SimpleRule}
+use Rattle.box_norm.specs.Cubes.{holds_cube}
+use Rattle.box_norm.specs.Overlaps.{and_of, holds_some}
+use Rattle.box_norm.proofs.OverlapLaws.{and_holds}
+use Rattle.region_cut.specs.Least.{AreApart, IsLeastPacket}
+use Rattle.region_cut.specs.Search.{FindsNone, HasManyRegions, IsFound}
+use Rattle.request.specs.declared.types.Claim.{Claim}
+use Rattle.simple_filter.specs.declared.refusal.Kind.{Kind}
+use Rattle.simple_filter.specs.declared.refusal.Refusal.{Refusal}
+use Rattle.spoof_check.specs.declared.answers.Spoof.{Spoof}
+use Rattle.spoof_check.specs.Refusals.{IsShown, RefusesSpoof}
+use Rattle.spoof_check.specs.Verdicts.{HoldsWhole, IsForged, IsRight, IsSearched, IsTooLong}
+use Rattle.fffuu_run.specs.Spoofing.{AreVerdicts, HasValidPacket, IsVerdict, RefusesVerdicts, set_of, verdict_line}
+
+head_same : {A : Type 0} (a b : A) (xs ys : List A) → a ∷ xs ≡ b ∷ ys → a ≡ b
+head_same a b xs ys e = cc
+
+tail_same : {A : Type 0} (a b : A) (xs ys : List A) → a ∷ xs ≡ b ∷ ys → xs ≡ ys
+tail_same a b xs ys e = cc
+
+-- a front of a list ends before an item, or past it
+abbrev Ends : {A : Type 0} → List A → A → List A → Type 0
+Ends {A} before item front = ((more : List A) × (before ≡ front ++ more)) ⊎ ((more : List A) × (front ≡ before ++ item ∷ more))
+
+longer : {A : Type 0} (a b : A) (before front : List A) (item : A) → a ≡ b → Ends before item front → Ends (a ∷ before) item (b ∷ front)
+longer a b before front item same ends = elim ends [
+  | inl (more, is) ↦ inl (more, cc)
+  | inr (more, is) ↦ inr (more, cc)
+]
+
+two_splits : {A : Type 0} (before : List A) (item : A) (after front back : List A) → before ++ item ∷ after ≡ front ++ back → Ends before item front
+two_splits before item after [] back is = inl (before, refl)
+two_splits [] item after (f ∷ front) back is = inr (front, ap (λ x. x ∷ front) (sym (head_same item f after (front ++ back) is)))
+two_splits (b ∷ before) item after (f ∷ front) back is =
+    longer b f before front item (head_same b f (before ++ item ∷ after) (front ++ back) is)
+    (two_splits before item after front back (tail_same b f (before ++ item ∷ after) (front ++ back) is))
+
+all_here : {A : Type 0} (P : A → Type 0) (passed : List A) (here : A) (rest : List A) → AllByRecursion P (passed ++ here ∷ rest) → P here
+all_here P [] here rest h = h.0
+all_here P (x ∷ passed) here rest h = all_here P passed here rest h.1
+
+-- a found packet is in the region and the rule that it is found in
+all_true : (a b : Bool) → a ≡ true → b ≡ true → (a && b) ≡ true
+all_true a b e f = grind (arith, e, f)
+
+least_holds : {W : ℕ} (c : Cube W) (p : Packet) → IsLeastPacket c p → holds_cube c p ≡ true
+least_holds c p l = all_true _ _ l.in_name.1 (all_true _ _ l.out_name.1 (all_true _ _ l.src.0 (all_true _ _ l.dst.0
+    (all_true _ _ l.proto.0 (all_true _ _ l.sport.0 (all_true _ _ l.dport.0 (all_true _ _ l.flags.0 l.state.0)))))))
+
+both_true : (a b s : Bool) → s ≡ (a && b) → s ≡ true → (a ≡ true) × (b ≡ true)
+both_true true true s e h = (refl, refl)
+both_true true false s e h = absurd (grind (arith, e, h))
+both_true false b s e h = absurd (grind (arith, e, h))
+
+module _ {W : ℕ} (region : Cube W) (rules : List (SimpleRule W)) where
+  none_within : FindsNone region rules → HasManyRegions region rules → ⊥
+  none_within none long = omega (arith, none.few long.before long.after long.whole, long.many)
+
+  found_within : (p : Packet) → IsValid W p → IsFound region rules p → HasManyRegions region rules → ⊥
+  found_within p valid f long = elim (two_splits f.before f.rule f.after long.before long.after (sym f.whole ∙ long.whole)) [
+    | inl (more, is) ↦ omega (arith, f.few long.before more is, long.many)
+    | inr (more, is) ↦
+        let nothing = long.nothing_before f.before more f.rule is f.accepts in
+        let apart = all_here (λ (c : Cube W). AreApart c f.rule.cube) f.passed f.here f.rest (subst (AllByRecursion (λ (c : Cube W). AreApart c f.rule.cube)) f.regions nothing) in
+        let inside = both_true (holds_cube f.here p) (holds_cube f.rule.cube p) (holds_some (and_of f.here f.rule.cube) p) (and_holds f.here f.rule.cube p valid)
+        (ap (λ o. holds_some o p) f.common_is ∙ least_holds f.common p f.least) in
+        apart p valid inside.0 inside.1
+  ]
+
+-- a search that answers, with a valid packet, isn't too long
+pub searched_within : {W : ℕ} (rules : List (SimpleRule W)) (policy : Verdict) (name : List ℕ) (inside : List Range) (verdict : Spoof) → HasValidPacket W verdict
+    → IsSearched rules policy name inside verdict → IsTooLong rules policy name inside → ⊥
+searched_within rules policy name inside Spoof.Holds valid searched long = elim searched [
+  | inl all ↦ long.0 all
+  | inr none ↦ none_within _ _ none long.1
+]
+searched_within rules policy name inside (Spoof.Violated p) valid searched long = found_within _ _ p valid searched.1 long.1
+
+-- one range more
+pub no_range : (w : ℕ) → IsWidth w → [] ≡ set_of w []
+no_range w width = spelled w [] (has []) (width, tt) (λ k below. refl)
+
+one_more_range : (w : ℕ) → IsWidth w → (done : List Range) (r : Range) → set_or w (set_of w done) (r ∷ []) ≡ set_of w (done ++ r ∷ [])
+unfolding set_or
+one_more_range w width done r =
+    let p = power w width in
+    spelled w (set_or w (set_of w done) (r ∷ [])) (has (done ++ r ∷ [])) (width, where_ascends (λ n. has (set_of w done) n || has (r ∷ []) n) (2 ^ w) (2 ^ w - 1) (omega (arith, p)))
+    (λ k below. let a = or_has w (set_of w done) (r ∷ []) k in
+    let b = where_has (has done) (2 ^ w) k in
+    let c = has-snoc done r k in
+    grind (arith, nat_tests, a, b, c, below))
+
+-- the addresses inside a claim and their set have the same forged packets
+module _ (w : ℕ) (name : List ℕ) (inside : List Range) (p : Packet) where
+  same_inside : p.src < 2 ^ w → has (set_of w inside) p.src ≡ has inside p.src
+  same_inside below = let a = where_has (has inside) (2 ^ w) p.src in grind (arith, nat_tests, a, below)
+
+  to_set : IsForged w name inside p → IsForged w name (set_of w inside) p
+  to_set f = record { valid = f.valid; named = f.named; opens = f.opens; outside = same_inside f.valid.src ∙ f.outside }
+
+  from_set : IsForged w name (set_of w inside) p → IsForged w name inside p
+  from_set f = record { valid = f.valid; named = f.named; opens = f.opens; outside = sym (same_inside f.valid.src) ∙ f.outside }
+
+is_verdict : {W : ℕ} (dump : Dump (Prim_ W)) (chain : ℕ) (claim : Claim) (verdict : Spoof) → IsRight dump chain claim.name (set_of W claim.inside) verdict
+    → HoldsWhole dump chain claim.name (set_of W claim.inside) verdict → IsShown dump chain claim.name (set_of W claim.inside) verdict → IsVerdict dump chain claim verdict
+is_verdict {W} dump chain claim Spoof.Holds right whole shown = record {
+  right = λ p forged may. right p (to_set W claim.name claim.inside p forged) may;
+  whole = λ p forged may. whole p (to_set W claim.name claim.inside p forged) may;
+  shown = shown;
+}
+is_verdict {W} dump chain claim (Spoof.Violated p) right whole shown = record { right = (from_set W claim.name claim.inside p right.0, right.1); whole = tt; shown = shown }
+
+-- the items before the next one, and it
+take_next : {A : Type 0} (xs : List A) (i : ℕ) (d : A) → i < length xs → take (i + 1) xs ≡ take i xs ++ get_or xs i d ∷ []
+take_next xs i d below = rw add-one (take-suc xs i d below)
+
+pub next_range : (w : ℕ) → IsWidth w → (ranges : List Range) (i : ℕ) (d : Range) → i < length ranges → (set one next : List Range) → set ≡ set_of w (take i ranges)
+    → one ≡ record { lo = (get_or ranges i d).lo; hi = (get_or ranges i d).hi } ∷ [] → next ≡ set_or w set one → next ≡ set_of w (take (i + 1) ranges)
+next_range w width ranges i d below set one next is one_is next_is =
+    next_is ∙ ap (λ (s : List Range). set_or w s one) is ∙ ap (set_or w (set_of w (take i ranges))) one_is
+    ∙ one_more_range w width (take i ranges) (get_or ranges i d) ∙ ap (set_of w) (sym (take_next ranges i d below))
+
+module _ {W : ℕ} (dump : Dump (Prim_ W)) (chain : ℕ) where
+  pub valid_packet : (name : List ℕ) (inside : List Range) (verdict : Spoof) → IsRight dump chain name inside verdict → HasValidPacket W verdict
+  valid_packet name inside Spoof.Holds right = tt
+  valid_packet name inside (Spoof.Violated p) right = right.0.valid
+
+  -- one verdict more
+  verdicts_more : (text_of : ℕ → List ℕ) (claims : List Claim) (written : List ℕ) (claim : Claim) (verdict : Spoof) → AreVerdicts dump chain text_of claims written
+      → IsVerdict dump chain claim verdict → AreVerdicts dump chain text_of (claims ++ claim ∷ []) (written ++ verdict_line text_of claim.name verdict)
+  verdicts_more text_of [] written claim verdict is one =
+      let line = verdict_line text_of claim.name verdict in
+      (verdict, [], (one, ap (λ (t : List ℕ). t ++ line) is ∙ sym (append-nil line), refl))
+  verdicts_more text_of (first ∷ claims) written claim verdict (v, rest, (right, is, others)) one =
+      let line = verdict_line text_of claim.name verdict in
+      (v, rest ++ line, (right, ap (λ (t : List ℕ). t ++ line) is ∙ append_assoc (verdict_line text_of first.name v) rest line, verdicts_more text_of claims rest claim verdict others one))
+
+  -- a claim that is searched by its name and its set
+  module _ (claims : List Claim) (i : ℕ) (claim : Claim) (below : i < length claims) (at : claim ≡ get_or claims i claim)
+      (name : List ℕ) (inside : List Range) (name_is : name ≡ claim.name) (inside_is : inside ≡ set_of W claim.inside) where
+    along : (P : List ℕ → List Range → Type 0) → P name inside → P claim.name (set_of W claim.inside)
+    along P h = subst (λ (n : List ℕ). P n (set_of W claim.inside)) name_is (subst (P name) inside_is h)
+
+    pub next_verdict : (text_of : ℕ → List ℕ) (written line after : List ℕ) (verdict : Spoof) → AreVerdicts dump chain text_of (take i claims) written
+        → IsRight dump chain name inside verdict → HoldsWhole dump chain name inside verdict → IsShown dump chain name inside verdict
+        → line ≡ verdict_line text_of name verdict → after ≡ written ++ line → AreVerdicts dump chain text_of (take (i + 1) claims) after
+    next_verdict text_of written line after verdict are right whole shown line_is after_is =
+        let one = is_verdict dump chain claim verdict (along (λ n s. IsRight dump chain n s verdict) right) (along (λ n s. HoldsWhole dump chain n s verdict) whole)
+        (along (λ n s. IsShown dump chain n s verdict) shown) in
+        let text = after_is ∙ ap (λ (l : List ℕ). written ++ l) (line_is ∙ ap (λ (n : List ℕ). verdict_line text_of n verdict) name_is) in
+        let front = take_next claims i claim below ∙ ap (λ (c : Claim). take i claims ++ c ∷ []) (sym at) in
+        subst (λ (t : List ℕ). AreVerdicts dump chain text_of (take (i + 1) claims) t) (sym text)
+        (subst (λ (cs : List Claim). AreVerdicts dump chain text_of cs (written ++ verdict_line text_of claim.name verdict)) (sym front)
+        (verdicts_more text_of (take i claims) written claim verdict are one))
+
+    -- a claim whose search is too long refuses all
+    pub refused_one : (refusal : Refusal) → (refusal ≡ Refusal.Memory) ⊎ (refusal ≡ Refusal.Limit Kind.Regions) → RefusesSpoof dump chain name inside refusal
+        → RefusesVerdicts dump chain claims refusal
+    refused_one refusal which refused = elim which [
+      | inl is ↦ subst (RefusesVerdicts dump chain claims) (sym is) tt
+      | inr is ↦ subst (RefusesVerdicts dump chain claims) (sym is)
+          (claim, (i, below, sym at), along (λ n s. RefusesSpoof dump chain n s (Refusal.Limit Kind.Regions)) (subst (RefusesSpoof dump chain name inside) is refused))
+    ]

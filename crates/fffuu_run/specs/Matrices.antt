@@ -1,0 +1,69 @@
+-- The matrix of a service in a text.
+use Rattle.std.specs.Prelude.{ℕ, ◌+◌, ◌≡◌, Bool, List, [], ◌∷◌, ◌++◌, codes, decimal, if◌then◌else◌, length}
+use Rattle.std.specs.List.{count_by, sum_by}
+use Rattle.interval_set.specs.declared.set.Range.{Range}
+use Rattle.primitives.specs.declared.prim.Prim_.{Prim_}
+use Rattle.fw_rule.specs.declared.rule.Dump.{Dump}
+use Rattle.closure.specs.declared.sides.Side.{Side}
+use Rattle.fw_text.specs.Ranges.{ranges_text}
+use Rattle.service_packet.specs.declared.service.Service.{Service}
+use Rattle.service_matrix.specs.declared.table.Matrix.{Matrix}
+use Rattle.service_matrix.specs.Matrices.{IsMatrix}
+use Rattle.service_matrix.specs.Services.{Edge, HoldsOfAllNames}
+use Rattle.service_matrix.specs.Refusals.{HasFewAtoms, RefusesMatrix}
+use Rattle.fffuu_run.specs.Questions.{Answers, RefusesQuestion}
+use Rattle.fffuu_run.specs.declared.status.Status.{Status}
+
+-- a line for an edge: the numbers of both classes
+abbrev pub edge_line : ℕ → ℕ → List ℕ
+edge_line i j = decimal i ++ (codes " " ++ (decimal j ++ 10 ∷ []))
+
+-- the lines of the edges from a class to the classes from this number on
+abbrev pub row_lines : ℕ → ℕ → List Bool → List ℕ
+row_lines i j [] = []
+row_lines i j (edge ∷ row) = (if edge then edge_line i j else []) ++ row_lines i (j + 1) row
+
+-- the lines of the edges from the classes from this number on
+abbrev pub edge_lines : ℕ → List (List Bool) → List ℕ
+edge_lines i [] = []
+edge_lines i (row ∷ rows) = row_lines i 0 row ++ edge_lines (i + 1) rows
+
+-- how many edges there are
+abbrev pub edge_count : List (List Bool) → ℕ
+edge_count edges = sum_by (count_by (λ edge. edge)) edges
+
+-- `text_of` is the one text that is written for an address
+module _ (text_of : ℕ → List ℕ) where
+  -- the line of a class: its number and its ranges
+  abbrev pub class_line : ℕ → List Range → List ℕ
+  class_line i class = decimal i ++ (codes " " ++ (ranges_text text_of class ++ 10 ∷ []))
+
+  -- a line for each class from this number on
+  abbrev pub class_lines : ℕ → List (List Range) → List ℕ
+  class_lines i [] = []
+  class_lines i (class ∷ classes) = class_line i class ++ class_lines (i + 1) classes
+
+  -- the classes with their number before them, and then the edges with theirs
+  abbrev pub matrix_text : List (List Range) → List (List Bool) → List ℕ
+  matrix_text classes edges =
+      (codes "classes " ++ (decimal (length classes) ++ 10 ∷ [])) ++ (class_lines 0 classes
+      ++ ((codes "edges " ++ (decimal (edge_count edges) ++ 10 ∷ [])) ++ edge_lines 0 edges))
+
+module _ {W : ℕ} (text_of : ℕ → List ℕ) (side : Side) (service : Service) where
+  -- this is the text of the service's matrix in the chain: its classes are those of all addresses that its edges can't tell apart
+  pub record IsMatrixText (dump : Dump (Prim_ W)) (chain : ℕ) (written : List ℕ) : Type 0 where
+    pub matrix : Matrix W
+    pub right : IsMatrix (Edge side dump chain service) matrix
+    pub names : HoldsOfAllNames side dump chain service matrix
+    pub few : HasFewAtoms side dump chain
+    pub written_is : written ≡ matrix_text text_of matrix.classes matrix.edges
+
+-- `Reads` says which text is one of which address of `W` bits
+module _ (W : ℕ) (Reads : List ℕ → ℕ → Type 0) (text_of : ℕ → List ℕ) (side : Side) (service : Service) where
+  -- the text is a dump with a chain of this name and a policy, and this is the text of the service's matrix in it
+  abbrev pub Matrices : List ℕ → List ℕ → List ℕ → Type 0
+  Matrices name text written = Answers W Reads name text (λ dump chain. IsMatrixText text_of side service dump chain written)
+
+  -- the text is no dump, or its chain of this name has no matrix
+  abbrev pub RefusesMatrices : List ℕ → List ℕ → Status → Type 0
+  RefusesMatrices name text s = RefusesQuestion W Reads name text (λ dump chain. RefusesMatrix side dump chain) s

@@ -1,0 +1,66 @@
+ghost use Rattle.std.specs.Prelude.{◌≡◌, ◌≤◌, ◌<◌, ◌⊎◌, ℕ, IfOk, IfErr, length};
+ghost use Rattle.chain_graph.specs.Paths.{CallsNameChains};
+ghost use Rattle.dump_read.specs.Answers.{IsPrintableDump};
+ghost use Rattle.fw_rule.specs.Calls.{HasRoom};
+ghost use Rattle.interval_set.specs.Numbers.{IsWidth};
+ghost use Rattle.fffuu_run.specs.Headline.{IsChain};
+ghost use Rattle.fffuu_run.specs.Questions.{HasNoChain, IsAsked, IsToldAs};
+
+use crate::Status;
+use crate::dumps::{asked, name_of, policy_of, read};
+use addr_text::Family;
+use fw_rule::{Dump, Verdict};
+use primitives::Prim_;
+use simple_filter::Refusal;
+use std::alloc::Global;
+
+/// A chain that is asked about, in its dump.
+#[derive(Drop)]
+pub struct AskedChain<const W: u32> {
+    pub dump: Dump<Prim_<W>>,
+    pub chain: u32,
+    pub policy: Verdict,
+}
+
+/// The dump that a text is, and its chain of this name.
+pub fn question<F: Family<W>, const W: u32>(
+    alloc: Global,
+    name: &[u8],
+    text: &[u8],
+) -> Result<AskedChain<W>, Status>
+    requires width { IsWidth W }
+    requires size { length text.now ≤ 16777216 }
+    ensures asked { IfOk result (λ q. IsAsked W F.Reads name.now text.now q.dump q.chain) }
+    ensures chain { IfOk result (λ q. IsChain q.dump q.chain name.now q.policy) }
+    ensures room { IfOk result (λ q. HasRoom q.dump) }
+    ensures named { IfOk result (λ q. CallsNameChains q.dump) }
+    ensures printable { IfOk result (λ q. IsPrintableDump q.dump) }
+    ensures refused { IfErr result (λ s. (s ≡ Status.Memory) ⊎ HasNoChain W F.Reads name.now text.now s) }
+{
+    let dump = read::<F, W>(alloc, text)?;
+    let Some(chain) = asked(&dump, name) else {
+        return Err(Status::NoChain);
+    };
+    let policy = policy_of(&dump, name, chain);
+    Ok(AskedChain {
+        dump,
+        chain: chain as u32,
+        policy,
+    })
+}
+
+/// The status of a refusal. A chain that calls itself is told by its name.
+pub fn told<const W: u32>(alloc: Global, dump: &Dump<Prim_<W>>, refusal: Refusal) -> Status
+    requires { (c : ℕ) → refusal ≡ Refusal.Loop c → c < length dump.now.chains }
+    ensures { (result ≡ Status.Memory) ⊎ IsToldAs dump.now refusal result }
+{
+    match refusal {
+        Refusal::Unsupported { line, name } => Status::Unsupported { line, name },
+        Refusal::Loop { chain } => match name_of(alloc, dump, chain) {
+            Ok(name) => Status::CallLoop { name },
+            Err(_) => Status::Memory,
+        },
+        Refusal::Limit(kind) => Status::Limit { kind },
+        Refusal::Memory => Status::Memory,
+    }
+}

@@ -1,0 +1,107 @@
+ghost use Rattle.std.specs.Prelude.{◌≡◌, ◌≤◌, ◌⊎◌, ◌++◌, ◌∷◌, [], IfOk, IfErr, OnOk, length};
+ghost use Rattle.std.specs.List.{AllByRecursion};
+ghost use Rattle.chain_graph.specs.Paths.{CallsNameChains};
+ghost use Rattle.fw_rule.specs.Calls.{HasRoom};
+ghost use Rattle.interval_set.specs.Numbers.{IsWidth};
+ghost use Rattle.request.specs.Requests.{IsRange};
+ghost use Rattle.spoof_check.specs.Refusals.{HasVerdict, IsClosed};
+ghost use Rattle.fffuu_run.specs.Spoofing.{AreVerdicts, HasValidPacket, RefusesSpoofs, RefusesVerdicts, Spoofs, set_of, verdict_line};
+
+use crate::Status;
+use crate::questions::{AskedChain, question, told};
+use addr_text::Family;
+use fw_rule::{Dump, Verdict};
+use fw_text::{packet_text, shown};
+use interval_set::{Range, Set};
+use primitives::Prim_;
+use request::Claim;
+use simple_filter::Refusal;
+use spoof_check::{Spoof, searched_rules, verdict};
+use std::alloc::{AllocError, Global};
+
+// The set of some ranges.
+fn set_of<const W: u32>(alloc: Global, ranges: &[Range]) -> Result<Set<W>, AllocError>
+    requires width { IsWidth W }
+    requires ranges { AllByRecursion (IsRange W) ranges.now }
+    ensures { IfOk result (λ set. set ≡ set_of W ranges.now) }
+{
+    let mut set = Set::empty(alloc);
+    for range in ranges {
+        set = set.or(alloc, &Set::range(alloc, range.lo, range.hi)?)?;
+    }
+    Ok(set)
+}
+
+// The line of a verdict on the interface of this name.
+fn verdict_line<F: Family<W>, const W: u32>(
+    alloc: Global,
+    name: &[u8],
+    verdict: &Spoof,
+) -> Result<Vec<u8>, AllocError>
+    requires { HasValidPacket W verdict.now }
+    ensures { IfOk result (λ text. text.items ≡ verdict_line F.text_of name.now verdict.now) }
+{
+    let mut text = Vec::new(alloc);
+    shown(alloc, name, &mut text)?;
+    match verdict {
+        Spoof::Holds => text.extend_from_slice(b" holds")?,
+        Spoof::Violated(packet) => {
+            text.extend_from_slice(b" violated")?;
+            packet_text::<F, W>(alloc, packet, &mut text)?;
+        }
+    }
+    text.push(b'\n')?;
+    Ok(text)
+}
+
+// The lines of the verdicts on the claims, in a chain with this policy.
+fn verdicts_of<F: Family<W>, const W: u32>(
+    alloc: Global,
+    dump: &Dump<Prim_<W>>,
+    chain: u32,
+    policy: Verdict,
+    claims: &[Claim],
+) -> Result<Vec<u8>, Refusal>
+    requires width { IsWidth W }
+    requires policy { HasVerdict dump.now chain policy }
+    requires room { HasRoom dump.now }
+    requires named { CallsNameChains dump.now }
+    requires ranges { AllByRecursion (λ claim. AllByRecursion (IsRange W) claim.inside) claims.now }
+    ensures closed { OnOk result (IsClosed dump.now chain) }
+    ensures ok { IfOk result (λ written. AreVerdicts dump.now chain F.text_of claims.now written.items) }
+    ensures refused { IfErr result (RefusesVerdicts dump.now chain claims.now) }
+{
+    let rules = searched_rules(alloc, dump, chain)?;
+    let mut text = Vec::new(alloc);
+    for claim in claims {
+        let name = claim.name.as_slice();
+        let inside = set_of(alloc, claim.inside.as_slice())?;
+        let found = verdict(alloc, dump, chain, policy, rules.as_slice(), name, &inside)?;
+        text.extend_from_slice(&verdict_line::<F, W>(alloc, name, &found)?)?;
+    }
+    Ok(text)
+}
+
+/// The verdicts on forged sources in the chain of this name of a text, a line for each claim.
+pub fn spoof_text<F: Family<W>, const W: u32>(
+    alloc: Global,
+    claims: &[Claim],
+    name: &[u8],
+    text: &[u8],
+) -> Result<Vec<u8>, Status>
+    requires width { IsWidth W }
+    requires size { length text.now ≤ 16777216 }
+    requires ranges { AllByRecursion (λ claim. AllByRecursion (IsRange W) claim.inside) claims.now }
+    ensures ok { IfOk result (λ written. Spoofs W F.Reads F.text_of claims.now name.now text.now written.items) }
+    ensures refused { IfErr result (λ s. (s ≡ Status.Memory) ⊎ RefusesSpoofs W F.Reads F.text_of claims.now name.now text.now s) }
+{
+    let AskedChain {
+        dump,
+        chain,
+        policy,
+    } = question::<F, W>(alloc, name, text)?;
+    match verdicts_of::<F, W>(alloc, &dump, chain, policy, claims) {
+        Ok(written) => Ok(written),
+        Err(refusal) => Err(told(alloc, &dump, refusal)),
+    }
+}
