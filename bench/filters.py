@@ -3,7 +3,7 @@
 growth from one size to the next. It asserts nothing.
 
     python3 bench/filters.py [PROGRAM]"""
-from measure import MOST, measure, wrapped
+from measure import MOST, doubtful, measure, wrapped
 
 
 def many(count, make):
@@ -39,20 +39,6 @@ def literals(share):
 def visits(share):
     count = int(4096 * share ** 0.5)
     return called(b"-A FORWARD -j C\n" * count, b"-A C -s 1.1.1.1/32 -j DROP\n" * (count - 1))
-
-
-def doubtful(share):
-    """Doubtful calls of eight chains of returns and accepts, a fifth of the lines each kind."""
-    lines = [b":S%d - [0:0]\n" % number for number in range(8)]
-    for number in range(int(1000 * share)):
-        net = b"10.%d.%d.0/24" % (number >> 8, number & 255)
-        chain = number // 5 % 8
-        lines.append([b"-A FORWARD -s %s -m limit --limit 5/sec -j S%d\n" % (net, chain),
-                      b"-A S%d -s %s -j RETURN\n" % (chain, net),
-                      b"-A S%d -d %s -p tcp -m tcp --dport %d -j ACCEPT\n" % (chain, net, number + 1),
-                      b"-A S%d -p udp -m recent --rcheck -j DROP\n" % chain,
-                      b"-A FORWARD -d %s -j ACCEPT\n" % net][number % 5])
-    return wrapped(*lines)
 
 
 def long(share):

@@ -13,6 +13,20 @@ def wrapped(*parts):
     return b"".join((HEAD, *parts, TAIL))
 
 
+def doubtful(share):
+    """Doubtful calls of eight chains of returns and accepts, a fifth of the lines each kind."""
+    lines = [b":S%d - [0:0]\n" % number for number in range(8)]
+    for number in range(int(1000 * share)):
+        net = b"10.%d.%d.0/24" % (number >> 8, number & 255)
+        chain = number // 5 % 8
+        lines.append([b"-A FORWARD -s %s -m limit --limit 5/sec -j S%d\n" % (net, chain),
+                      b"-A S%d -s %s -j RETURN\n" % (chain, net),
+                      b"-A S%d -d %s -p tcp -m tcp --dport %d -j ACCEPT\n" % (chain, net, number + 1),
+                      b"-A S%d -p udp -m recent --rcheck -j DROP\n" % chain,
+                      b"-A FORWARD -d %s -j ACCEPT\n" % net][number % 5])
+    return wrapped(*lines)
+
+
 def timed(program, words, text):
     """The status, seconds, and peak memory in MiB."""
     with tempfile.TemporaryFile() as given:

@@ -1,4 +1,4 @@
-"""Worked cases of `upper`, `lower` and `explain`, each with the bytes that are wanted, and inputs at the limits."""
+"""Worked cases of the modes, each with the bytes that are wanted, and inputs at the limits."""
 
 
 def wrapped(*lines):
@@ -148,6 +148,87 @@ CASES = {
     "doubling calls are too many nodes": ("upper", doubling(18), limit("nodes")),
 }
 
+
+
+def generated(count):
+    """The dump that `load` measures."""
+    def line(i):
+        net, chain = f"10.{i // 256}.{i % 256}.0/24", f"S{i // 5 % 8}"
+        return [f"-A FORWARD -s {net} -m limit --limit 5/sec -j {chain}", f"-A {chain} -s {net} -j RETURN",
+                f"-A {chain} -d {net} -p tcp -m tcp --dport {i + 1} -j ACCEPT", f"-A {chain} -p udp -m recent --rcheck -j DROP",
+                f"-A FORWARD -d {net} -j ACCEPT"][i % 5]
+    return wrapped(":FORWARD DROP [0:0]", *(f":S{i} - [0:0]" for i in range(8)), *(line(i) for i in range(count)))
+
+
+def thousand_classes():
+    """The classes of `tcp:1:3` in the dump of a thousand rules: all else, the sources that call S0, the one destination with that port, and
+    the destinations that FORWARD accepts."""
+    callers, accepted, port = set(range(0, 1000, 40)), set(range(4, 1000, 5)), {2}
+
+    def ranges(numbers):
+        return ",".join(f"10.{i >> 8}.{i & 255}.0-10.{i >> 8}.{i & 255}.255" for i in sorted(numbers))
+
+    inner = [i for i in range(1000) if i not in callers | accepted | port]
+    runs = []
+    for i in inner:
+        if runs and runs[-1][1] == i - 1:
+            runs[-1][1] = i
+        else:
+            runs.append([i, i])
+    between = [f"10.{a >> 8}.{a & 255}.0-10.{b >> 8}.{b & 255}.255" for a, b in runs]
+    rest = ["0.0.0.0-9.255.255.255", *between, "10.3.232.0-255.255.255.255"]
+    return f"classes 4\n0 {','.join(rest)}\n1 {ranges(callers)}\n2 {ranges(port)}\n3 {ranges(accepted)}\n"
+
+
+ONE_PAIR = forward("-s 10.0.0.0/8 -d 192.168.0.1/32 -j ACCEPT")
+LAST_DROPPED = forward("-s 255.255.255.255/32 -j DROP", policy="ACCEPT")
+BY_NAME = forward("-i eth0 -j ACCEPT")
+GUARDED = ("-m conntrack --ctstate ESTABLISHED -j ACCEPT", "! -s 10.0.0.0/8 -i eth0 -j DROP", "-j ACCEPT")
+HALF_GUARDED = ("-m conntrack --ctstate ESTABLISHED -j ACCEPT", "! -s 10.0.0.0/8 -i eth0 -p tcp -j DROP", "-j ACCEPT")
+FORGED = "eth0 violated in=eth0 out= src=0.0.0.0 dst=0.0.0.0 proto=0 sport=0 dport=0 flags=NONE state=NEW\n"
+ALL = "0 0.0.0.0-255.255.255.255\n"
+PAIR_CLASSES = ("classes 3\n0 0.0.0.0-9.255.255.255,11.0.0.0-192.168.0.0,192.168.0.2-255.255.255.255\n1 10.0.0.0-10.255.255.255\n"
+                "2 192.168.0.1\n")
+FIVE_CLASSES = ("classes 4\n0 0.0.0.0-9.255.255.255,10.0.1.0-10.0.1.255,10.0.3.0-10.0.3.255,10.0.5.0-255.255.255.255\n"
+                "1 10.0.0.0-10.0.0.255\n2 10.0.2.0-10.0.2.255\n3 10.0.4.0-10.0.4.255\n")
+FIVE_EDGES = "edges 5\n0 3\n1 2\n1 3\n2 3\n3 3\n"
+
+CASES |= {
+    "a matrix of one class without an edge": ("matrix tcp:10000:22", forward(), prints("classes 1\n" + ALL + "edges 0\n")),
+    "a matrix of one class with an edge": ("matrix tcp:10000:22", forward(policy="ACCEPT"), prints("classes 1\n" + ALL + "edges 1\n0 0\n")),
+    "a matrix with an edge one way": ("matrix tcp:10000:22", ONE_PAIR, prints(PAIR_CLASSES + "edges 1\n1 2\n")),
+    "a matrix with the last address alone": (
+        "matrix tcp:1:1", LAST_DROPPED, prints("classes 2\n0 0.0.0.0-255.255.255.254\n1 255.255.255.255\nedges 2\n0 0\n0 1\n")),
+    "names count as unknown in a matrix": ("matrix udp:1:53", BY_NAME, prints("classes 1\n" + ALL + "edges 1\n0 0\n")),
+    "names count as unknown in a lower matrix": ("matrix udp:1:53 --side lower", BY_NAME, prints("classes 1\n" + ALL + "edges 0\n")),
+    "a matrix of five generated rules": ("matrix tcp:1:3", generated(5), prints(FIVE_CLASSES + FIVE_EDGES)),
+    "a matrix of a thousand generated rules": ("matrix tcp:1:3", generated(1000), prints(thousand_classes() + FIVE_EDGES)),
+    "a lower matrix of five generated rules": (
+        "matrix tcp:1:3 --side lower", generated(5),
+        prints("classes 2\n0 0.0.0.0-10.0.3.255,10.0.5.0-255.255.255.255\n1 10.0.4.0-10.0.4.255\nedges 2\n0 1\n1 1\n")),
+    "a matrix over IPv6": (
+        "matrix tcp:1:1 --family 6", forward("-s 2001:db8::/32 -d ::1/128 -j ACCEPT"),
+        prints("classes 3\n0 ::,::2-2001:db7:ffff:ffff:ffff:ffff:ffff:ffff,2001:db9::-ffff:ffff:ffff:ffff:ffff:ffff:ffff:ffff\n1 ::1\n"
+               "2 2001:db8::-2001:db8:ffff:ffff:ffff:ffff:ffff:ffff\nedges 1\n2 1\n")),
+    "a matrix wants two ports": ("matrix tcp:1", forward(), (1, "", USAGE)),
+    "forged sources are dropped": ("spoof eth0=10.0.0.0/8", forward(*GUARDED), prints("eth0 holds\n")),
+    "forged sources of tcp alone are dropped": ("spoof eth0=10.0.0.0/8", forward(*HALF_GUARDED), prints(FORGED)),
+    "no source is forged": ("spoof eth0=0.0.0.0/0", forward(*HALF_GUARDED), prints("eth0 holds\n")),
+    "a rule of no interface passes forged sources": (
+        "spoof eth0=10.0.0.0/8 eth1=10.0.0.0/8", forward("! -i eth1 -j ACCEPT"), prints(FORGED + "eth1 holds\n")),
+    "the first piece gives the packet": (
+        "spoof eth0=255.255.255.255", forward("-s 0.0.0.0/1 -p tcp -j DROP", "-j ACCEPT"), prints(FORGED.replace("src=0.0.0.0", "src=128.0.0.0"))),
+    "a claimed name is taken as it stands": ("spoof hex:61=1.1.1.1 eth+=1.1.1.1", forward(), prints("hex:6865783a3631 holds\neth+ holds\n")),
+    "output names count as unknown": ("spoof eth0=10.0.0.0/8", forward("-o ppp0 -j ACCEPT"), prints(FORGED)),
+    "arguments may stand apart": (
+        "spoof eth0=10.0.0.0/8 --family 4 lo=127.0.0.0/8,10.0.0.1,1.1.1.1-1.1.1.2", forward(), prints("eth0 holds\nlo holds\n")),
+    "an interface without a name": ("spoof =10.0.0.0/8", forward(), (1, "", USAGE)),
+    "the loads of five rules": ("load 5", "", prints("load 5\nupper rules 2 lines 2\nlower rules 3 lines 4\n")),
+    "the loads of a thousand rules": ("load 1000", "", prints("load 1000\nupper rules 5200 lines 5200\nlower rules 70200 lines 135200\n")),
+    "a load of more rules": ("load 1001", "", (1, "", USAGE)),
+    "a load of an asked chain": ("load 5 --chain A", "", (1, "", USAGE)),
+}
+
 EXPLAIN_TEXT = forward("-j ACCEPT")
 # what no packet of `explain` is
 BAD_FIELDS = ["src", "src=", "src=1.2.3", "src=10.0.0.0/8", "src=::1", "dst=1.2.3.256", "proto=", "proto=256", "proto=all", "proto=TCP",
@@ -195,6 +276,31 @@ def boxes(returns, *before):
 UNUSED = calling(*address_returns(127), *(f"-i e{i} -o x -j RETURN" for i in range(1, 65)), "-m tcp ! --dport 22 -j RETURN", "-j ACCEPT")
 
 
+def even_nets(count):
+    """Rules that accept from every second net of 256 addresses."""
+    return wrapped(":FORWARD DROP [0:0]", *(f"-A FORWARD -s 10.{i >> 7}.{i % 128 * 2}.0/24 -j ACCEPT" for i in range(count)))
+
+
+def even_classes(count):
+    """The matrix of these rules: all accepted sources are one class, and all other addresses the other."""
+    accepted = [f"10.{i >> 7}.{i % 128 * 2}.0-10.{i >> 7}.{i % 128 * 2}.255" for i in range(count)]
+    between = [f"10.{i >> 7}.{i % 128 * 2 + 1}.0-10.{i >> 7}.{i % 128 * 2 + 1}.255" for i in range(count - 1)]
+    last = f"10.{count - 1 >> 7}.{(count - 1) % 128 * 2 + 1}.0-255.255.255.255"
+    return f"classes 2\n0 {','.join(['0.0.0.0-9.255.255.255', *between, last])}\n1 {','.join(accepted)}\nedges 2\n1 0\n1 1\n"
+
+
+def region_drops(*more):
+    """Drops after which 65,536 pieces of the forged packets are left: 16 of pairs of addresses, times one of the other protocols and 315 times
+    13 of tcp."""
+    lines = [f"-A FORWARD -s 1.0.0.{i}/32 -d 2.0.0.{i}/32 -j DROP" for i in range(15)]
+    lines += [f"-A FORWARD -p tcp -m tcp --sport {i + 1} -m tcp --dport 1000 -j DROP" for i in range(314)]
+    lines += [f"-A FORWARD -p tcp -m tcp --dport {2000 + i} -m tcp --tcp-flags SYN SYN -j DROP" for i in range(12)]
+    return wrapped(":FORWARD ACCEPT [0:0]", *lines, *more)
+
+
+ONE_MORE = "-A FORWARD -s 3.0.0.1/32 -d 2.0.0.0/32 -p udp -j DROP"
+
+
 LIMITS = {
     "131,072 simple rules": ("upper", many(131_072, "-A FORWARD -j ACCEPT"), 131_072),
     "131,073 simple rules": ("upper", many(131_073, "-A FORWARD -j ACCEPT"), limit("rules")),
@@ -212,6 +318,13 @@ LIMITS = {
     "256 chains in a row": ("lower", chained(256), 0),
     "257 chains in a row": ("upper", chained(257), limit("depth")),
     "calls that double 17 times": ("upper", doubling(17), 65_536),
+    "4,096 boundaries": ("matrix tcp:1:1", even_nets(2048), prints(even_classes(2048))),
+    "4,098 boundaries": ("matrix tcp:1:1", even_nets(2049), limit("atoms")),
+    "65,536 regions": ("spoof eth0=9.9.9.9", region_drops(), prints(FORGED)),
+    "more regions": ("spoof eth0=9.9.9.9", region_drops(ONE_MORE), limit("regions")),
+    "more regions behind the answer": ("spoof eth0=9.9.9.9", region_drops("-A FORWARD -s 200.0.0.0/8 -p udp -j ACCEPT", ONE_MORE),
+                                       prints(FORGED.replace("src=0.0.0.0", "src=200.0.0.0").replace("proto=0", "proto=17"))),
+    "more regions for one of two claims": ("spoof eth0=0.0.0.0/0 eth1=9.9.9.9", region_drops(ONE_MORE), limit("regions")),
     "16,777,216 visits": ("explain src=2.2.2.2", visited(), prints("accept never\ndrop under 0\n")),
     "16,777,217 visits": ("explain src=2.2.2.2", visited("-A FORWARD -j ACCEPT"), limit("visits")),
 }

@@ -153,11 +153,12 @@ def disagreements(program, rng, family):
             yield f"explain of {p}: {status} {err}{out}, wanted {lines}\n{given}"
 
 
-def main(program, count, start):
+def main(program, count, start, find=disagreements):
+    """Looks for disagreements in so many random dumps, prints what is found, and answers the exit status."""
     rng = random.Random(start)
     failed = 0
     for _ in range(count):
-        wrong = list(disagreements(program, rng, rng.choice([4, 4, 6])))
+        wrong = list(find(program, rng, rng.choice([4, 4, 6])))
         failed += bool(wrong)
         if wrong and failed <= 3:
             print(wrong[0])
@@ -165,6 +166,7 @@ def main(program, count, start):
     return 1 if failed else 0
 
 
-if len(sys.argv) != 4:
-    sys.exit(__doc__)
-sys.exit(main(sys.argv[1], int(sys.argv[2]), int(sys.argv[3])))
+if __name__ == "__main__":
+    if len(sys.argv) != 4:
+        sys.exit(__doc__)
+    sys.exit(main(sys.argv[1], int(sys.argv[2]), int(sys.argv[3])))

@@ -14,6 +14,7 @@ import subprocess
 import sys
 
 import cases
+import questions
 
 MOST = 16_777_216
 TOP = os.path.dirname(os.path.dirname(os.path.abspath(__file__)))
@@ -274,6 +275,9 @@ def samples():
                 wanted = kept.read()
             check(f"{mode} of {path}", told(run([mode, *family], text)), (0, wanted, b""))
             check(f"{mode} of its own answer for {path}", told(run([mode, *family], wanted)), (0, wanted, b""))
+        for side, accepts in (("upper", lambda found: "accept" in found), ("lower", lambda found: found == {"accept"})):
+            wanted = questions.matrix_text(text.decode(), int(family[1]), "tcp:1024:80", accepts)
+            check(f"matrix of side {side} of {path}", told(run(["matrix", "tcp:1024:80", "--side", side, *family], text)), (0, wanted.encode(), b""))
 
 
 def spelled(family, rng):

@@ -84,8 +84,8 @@ def module_test(module, option, arguments, number):
         test, key = between(arguments[0]), "src" if option == "--src-range" else "dst"
         return lambda p: test(p[key])
     if (module, option) in (("state", "--state"), ("conntrack", "--ctstate")):
-        wanted = [STATES.index(part) for part in arguments[0].split(",")]
-        return lambda p: p["state"] in wanted
+        wanted = [STATES.index(part) if part in STATES else None for part in arguments[0].split(",")]
+        return None if None in wanted else lambda p: p["state"] in wanted
     if module == "comment":
         return lambda p: True
     return None
@@ -101,8 +101,9 @@ def has_option(words):
     return False
 
 
-def literals_of(words):
-    """The literals of a rule's words up to its target: pairs of `negated` and a test, where the test of an unknown one is None."""
+def literals_of(words, hidden=()):
+    """The literals of a rule's words up to its target: pairs of `negated` and a test, where the test of an unknown one is None. The
+    base options of `hidden` count as unknown."""
     number = None
     for at, (text, _) in enumerate(words):
         if text == "-p" and (at == 0 or words[at - 1][0] != "!") and words[at + 1][0] not in ("all", "0"):
@@ -121,7 +122,7 @@ def literals_of(words):
             continue
         if option.encode() in reader.BASE:
             arguments = [words[at][0]]
-            found.append((negated, base_test(option, arguments[0])))
+            found.append((False, None) if option in hidden else (negated, base_test(option, arguments[0])))
         else:
             count = reader.ROWS.get((module.encode(), option.encode()))
             if count is None:
@@ -137,8 +138,9 @@ def literals_of(words):
     return found
 
 
-def dump(text):
-    """The chains of the table `filter`, by name: the policy and the rules, each its line, its literals and its target."""
+def dump(text, hidden=()):
+    """The chains of the table `filter`, by name: the policy and the rules, each its line, its literals and its target. The base
+    options of `hidden` count as unknown."""
     chains, inside = {}, False
     for number, line in enumerate(text.splitlines(), 1):
         inside = line == "*filter" or (inside and line != "COMMIT")
@@ -151,7 +153,7 @@ def dump(text):
         texts = [word for word, _ in words]
         at = texts.index("-j") if "-j" in texts else len(texts)
         target = texts[at + 1] if at < len(texts) else None
-        chains[texts[1]][1].append((number, literals_of(words[2:at]), target))
+        chains[texts[1]][1].append((number, literals_of(words[2:at], hidden), target))
     return chains
 
 

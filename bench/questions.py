@@ -1,0 +1,42 @@
+#!/usr/bin/env python3
+"""Times `matrix`, `spoof` and `load` of the built program on generated dumps, and prints seconds, peak memory and the growth
+from one size to the next. It asserts nothing.
+
+    python3 bench/questions.py [PROGRAM]"""
+from measure import HEAD, doubtful, measure, wrapped
+
+
+def even_nets(share):
+    """Rules that accept from every second net: two boundaries each, 4,096 in the end."""
+    return wrapped(*(b"-A FORWARD -s 10.%d.%d.0/24 -j ACCEPT\n" % (number >> 7, number % 128 * 2) for number in range(int(2048 * share))))
+
+
+def pairs(share):
+    """Rules that accept from one net to another, 1,024 in the end."""
+    return wrapped(*(b"-A FORWARD -s 10.0.%d.%d/32 -d 10.1.%d.%d/32 -j ACCEPT\n" % (n >> 7, n % 128 * 2, n >> 7, n % 128 * 2)
+                     for n in range(int(1024 * share))))
+
+
+def regions(share, *more):
+    """Drops after which 65,536 pieces of the forged packets are left."""
+    ports = int(314 * share)
+    lines = [b"-A FORWARD -s 1.0.0.%d/32 -d 2.0.0.%d/32 -j DROP\n" % (number, number) for number in range(15)]
+    lines += [b"-A FORWARD -p tcp -m tcp --sport %d -m tcp --dport 1000 -j DROP\n" % (number + 1) for number in range(ports)]
+    lines += [b"-A FORWARD -p tcp -m tcp --dport %d -m tcp --tcp-flags SYN SYN -j DROP\n" % (2000 + number) for number in range(12)]
+    return wrapped(*lines, *more)
+
+
+def misses(share):
+    """The same, and 2,000 accepting rules of other interfaces, which no forged packet comes in by."""
+    return regions(share, *(b"-A FORWARD -i wan%d -j ACCEPT\n" % number for number in range(2000)))
+
+
+measure([
+    ("a generated dump of 1,000 rules", "matrix tcp:1:3", doubtful),
+    ("the same", "matrix tcp:1:3 --side lower", doubtful),
+    ("4,096 boundaries, all accepted sources alike", "matrix tcp:1:1", even_nets),
+    ("1,024 pairs of addresses", "matrix tcp:1:1", pairs),
+    ("65,536 pieces of forged packets", "spoof eth0=9.9.9.9", regions),
+    ("the same and 2,000 accepts that miss", "spoof eth0=9.9.9.9", misses),
+    ("nothing on standard input", "load 1000", lambda share: HEAD),
+])
