@@ -17,6 +17,13 @@ def pairs(share):
                      for n in range(int(1024 * share))))
 
 
+def crossed(share):
+    """Each source is barred from one destination of its own, and each destination opened by a rule of its own: 4,096 boundaries."""
+    hosts = [b"%d.%d/32" % (n >> 7, n % 128 * 2) for n in range(int(1024 * share))]
+    return wrapped(*(b"-A FORWARD -s 10.0.%s -d 10.1.%s -j DROP\n" % (host, host) for host in hosts),
+                   *(b"-A FORWARD -d 10.1.%s -j ACCEPT\n" % host for host in hosts))
+
+
 def regions(share, *more):
     """Drops after which 65,536 pieces of the forged packets are left."""
     ports = int(314 * share)
@@ -31,12 +38,20 @@ def misses(share):
     return regions(share, *(b"-A FORWARD -i wan%d -j ACCEPT\n" % number for number in range(2000)))
 
 
+def searches(share):
+    """The same, and 2,000 accepting rules of forged packets that a drop before them has taken: each looks at every piece."""
+    return regions(1, *(b"-A FORWARD -s 1.0.0.0/32 -d 2.0.0.0/32 -p udp -m udp --dport %d -j ACCEPT\n" % (number + 1)
+                        for number in range(int(2000 * share))))
+
+
 measure([
     ("a generated dump of 1,000 rules", "matrix tcp:1:3", doubtful),
     ("the same", "matrix tcp:1:3 --side lower", doubtful),
     ("4,096 boundaries, all accepted sources alike", "matrix tcp:1:1", even_nets),
     ("1,024 pairs of addresses", "matrix tcp:1:1", pairs),
+    ("1,024 sources crossed with destinations", "matrix tcp:1:1", crossed),
     ("65,536 pieces of forged packets", "spoof eth0=9.9.9.9", regions),
     ("the same and 2,000 accepts that miss", "spoof eth0=9.9.9.9", misses),
+    ("the same and 2,000 accepts of what was dropped", "spoof eth0=9.9.9.9", searches),
     ("nothing on standard input", "load 1000", lambda share: HEAD),
 ])

@@ -8,7 +8,7 @@ use Rattle.closure.specs.declared.sides.Side.{Side}
 use Rattle.fw_text.specs.Ranges.{ranges_text}
 use Rattle.service_packet.specs.declared.service.Service.{Service}
 use Rattle.service_matrix.specs.declared.table.Matrix.{Matrix}
-use Rattle.service_matrix.specs.Matrices.{IsMatrix}
+use Rattle.service_matrix.specs.Matrices.{IsCoarsest, IsMatrix}
 use Rattle.service_matrix.specs.Services.{Edge, HoldsOfAllNames}
 use Rattle.service_matrix.specs.Refusals.{HasFewAtoms, RefusesMatrix}
 use Rattle.fffuu_run.specs.Questions.{Answers, RefusesQuestion}
@@ -54,6 +54,7 @@ module _ {W : ℕ} (text_of : ℕ → List ℕ) (side : Side) (service : Service
   pub record IsMatrixText (dump : Dump (Prim_ W)) (chain : ℕ) (written : List ℕ) : Type 0 where
     pub matrix : Matrix W
     pub right : IsMatrix (Edge side dump chain service) matrix
+    pub coarsest : IsCoarsest W (Edge side dump chain service) matrix.classes
     pub names : HoldsOfAllNames side dump chain service matrix
     pub few : HasFewAtoms side dump chain
     pub written_is : written ≡ matrix_text text_of matrix.classes matrix.edges

@@ -23,7 +23,7 @@ fn are_sets<const W: u32>(sets: &[Set<W>])
 /// The groups of the numbers below `2 ^ W` that lie in the same sets, in the order of their least numbers. The groups share no
 /// number, none of them is empty, and together they have all numbers. W is 8, 16, 32 or 128.
 ///
-/// A boundary of a set is a number above 0 that is in the set where the one before it isn't, or the other way round.
+/// A boundary of a set is a number above 0 and below `2 ^ W` that is in the set where the one before it isn't, or the other way round.
 ///
 /// # Errors
 ///

@@ -1,15 +1,16 @@
 -- Edges between addresses have one matrix alone.
-use Rattle.std.proofs.Common.{◌≡◌, ◌≢◌, ℕ, zero, suc, ◌-◌, ◌^◌, ◌<◌, ◌≤◌, ◌==◌, Bool, true, false, ◌⊎◌, inl, inr, List, [], ◌∷◌, length, None, Some, slice_get, unwrap_or, refl, sym, ◌∙◌, subst, arith}
+use Rattle.std.proofs.Common.{◌≡◌, ◌≢◌, ℕ, zero, suc, ◌-◌, ◌^◌, ◌<◌, ◌≤◌, ◌==◌, Bool, true, false, ◌↔◌, ◌⊎◌, inl, inr, List, [], ◌∷◌, length, None, Some, slice_get, unwrap_or, Result, IfOk, refl, sym, ◌∙◌, subst, arith}
 use Rattle.std.proofs.lemmas.Bool.Decides.{nat_tests}
+use Rattle.std.proofs.lemmas.Result.{IfOk-weaker}
 use Rattle.std.specs.List.{AllByRecursion}
 use Rattle.interval_set.specs.declared.set.Range.{Range}
 use Rattle.interval_set.specs.Numbers.{has, IsSet}
 use Rattle.interval_set.proofs.Spelling.{has_above, power}
 use Rattle.ip_partition.specs.Partition.{IsIn}
 use Rattle.service_matrix.specs.declared.table.Matrix.{Matrix}
-use Rattle.service_matrix.specs.Matrices.{has_edge, IsSquare, IsMatrix}
+use Rattle.service_matrix.specs.Matrices.{has_edge, IsCoarsest, IsMatrix, IsSquare, IsUniform}
 use Rattle.service_matrix.specs.Laws.{HasOneMatrix}
-use Rattle.service_matrix.proofs.Partitions.{same_bool, of_partition, Together, SameClasses, one_list}
+use Rattle.service_matrix.proofs.Partitions.{same_bool, of_partition, SameClasses, one_list}
 
 pub set_below : (w : ℕ) (set : List Range) (n : ℕ) → IsSet w set → has set n ≡ true → n < 2 ^ w
 set_below w set n s h =
@@ -54,19 +55,19 @@ same_edges n a b sa sb e =
     same_lists false (unwrap_or (slice_get a i) []) (unwrap_or (slice_get b i) []) (la ∙ sym lb)
     (λ j h. e i j (omega (arith, l, sa.0)) (omega (arith, h, la))))
 
--- a matrix has its addresses in one class where no edge tells them apart
-module _ {W : ℕ} (E : ℕ → ℕ → Type 0) (a b : Matrix W) (ma : IsMatrix E a) (mb : IsMatrix E b) where
-  module _ (n m : ℕ) (t : Together a.classes n m) (i j : ℕ) (x : IsIn b.classes i n) (y : IsIn b.classes j m) where
+-- a matrix has two addresses in one class where E can't tell them apart
+module _ {W : ℕ} (E : ℕ → ℕ → Type 0) (b : Matrix W) (mb : IsMatrix E b) where
+  module _ (n m : ℕ) (to : (d : ℕ) → d < 2 ^ W → E n d ↔ E m d) (from : (d : ℕ) → d < 2 ^ W → E d n ↔ E d m) (i j : ℕ) (x : IsIn b.classes i n) (y : IsIn b.classes j m) where
     told : (k : ℕ) → k < length b.classes → (has_edge b.edges i k ≡ has_edge b.edges j k) × (has_edge b.edges k i ≡ has_edge b.edges k j)
     told k h =
         let d = mb.partition.some k h in
-        let l = ma.partition.covers d.0 (in_below W b.classes k d.0 mb.partition.sets d.1) in (
+        let l = in_below W b.classes k d.0 mb.partition.sets d.1 in (
           same_bool (has_edge b.edges i k) (has_edge b.edges j k)
-              (λ e. (mb.edges_are j k m d.0 y d.1).1 ((ma.edges_are t.0 l.0 m d.0 t.2 l.1).0 ((ma.edges_are t.0 l.0 n d.0 t.1 l.1).1 ((mb.edges_are i k n d.0 x d.1).0 e))))
-              (λ e. (mb.edges_are i k n d.0 x d.1).1 ((ma.edges_are t.0 l.0 n d.0 t.1 l.1).0 ((ma.edges_are t.0 l.0 m d.0 t.2 l.1).1 ((mb.edges_are j k m d.0 y d.1).0 e)))),
+              (λ e. (mb.edges_are j k m d.0 y d.1).1 ((to d.0 l).0 ((mb.edges_are i k n d.0 x d.1).0 e)))
+              (λ e. (mb.edges_are i k n d.0 x d.1).1 ((to d.0 l).1 ((mb.edges_are j k m d.0 y d.1).0 e))),
           same_bool (has_edge b.edges k i) (has_edge b.edges k j)
-              (λ e. (mb.edges_are k j d.0 m d.1 y).1 ((ma.edges_are l.0 t.0 d.0 m l.1 t.2).0 ((ma.edges_are l.0 t.0 d.0 n l.1 t.1).1 ((mb.edges_are k i d.0 n d.1 x).0 e))))
-              (λ e. (mb.edges_are k i d.0 n d.1 x).1 ((ma.edges_are l.0 t.0 d.0 n l.1 t.1).0 ((ma.edges_are l.0 t.0 d.0 m l.1 t.2).1 ((mb.edges_are k j d.0 m d.1 y).0 e)))),
+              (λ e. (mb.edges_are k j d.0 m d.1 y).1 ((from d.0 l).0 ((mb.edges_are k i d.0 n d.1 x).0 e)))
+              (λ e. (mb.edges_are k i d.0 n d.1 x).1 ((from d.0 l).1 ((mb.edges_are k j d.0 m d.1 y).0 e))),
         )
 
     not_told : (k : ℕ) → k < length b.classes → ((has_edge b.edges i k ≢ has_edge b.edges j k) ⊎ (has_edge b.edges k i ≢ has_edge b.edges k j)) → ⊥
@@ -79,12 +80,24 @@ module _ {W : ℕ} (E : ℕ → ℕ → Type 0) (a b : Matrix W) (ma : IsMatrix 
         let d = mb.differ i j (slice_get_below b.classes i x.0 x.1) (slice_get_below b.classes j y.0 y.1) (λ s. let t : i ≡ j = s in grind (arith, nat_tests, e, t)) in
         absurd (not_told d.0 d.1 d.2)
 
-  pub same_classes : SameClasses a.classes b.classes
-  same_classes n m t =
-      let x = mb.partition.covers n (in_below W a.classes t.0 n ma.partition.sets t.1) in
-      let y = mb.partition.covers m (in_below W a.classes t.0 m ma.partition.sets t.2) in
-      let e : x.0 ≡ y.0 = one_class n m t x.0 y.0 x.1 y.1 (x.0 == y.0) refl in
+  pub is_coarsest : IsCoarsest W E b.classes
+  is_coarsest others covers uniform n m h k t =
+      let x = mb.partition.covers n h in
+      let y = mb.partition.covers m k in
+      let to : (d : ℕ) → d < 2 ^ W → E n d ↔ E m d = λ d l. let c = covers d l in uniform t.0 c.0 n m d d t.1 t.2 c.1 c.1 in
+      let from : (d : ℕ) → d < 2 ^ W → E d n ↔ E d m = λ d l. let c = covers d l in uniform c.0 t.0 d d n m c.1 c.1 t.1 t.2 in
+      let e : x.0 ≡ y.0 = one_class n m to from x.0 y.0 x.1 y.1 (x.0 == y.0) refl in
       (y.0, subst (λ (z : ℕ). IsIn b.classes z n) e x.1, y.1)
+
+  -- its edges are the same between all addresses of two classes
+  pub is_uniform : IsUniform E b.classes
+  is_uniform i j s t d e x y z w =
+      (λ p. (mb.edges_are i j t e y w).0 ((mb.edges_are i j s d x z).1 p), λ p. (mb.edges_are i j s d x z).0 ((mb.edges_are i j t e y w).1 p))
+
+module _ {W : ℕ} (E : ℕ → ℕ → Type 0) (a b : Matrix W) (ma : IsMatrix E a) (mb : IsMatrix E b) where
+  same_classes : SameClasses a.classes b.classes
+  same_classes n m t =
+      is_coarsest E b mb a.classes ma.partition.covers (is_uniform E a ma) n m (in_below W a.classes t.0 n ma.partition.sets t.1) (in_below W a.classes t.0 m ma.partition.sets t.2) t
 
   edges_agree : a.classes ≡ b.classes → (i j : ℕ) → i < length a.classes → j < length a.classes → has_edge a.edges i j ≡ has_edge b.edges i j
   edges_agree e i j h k =
@@ -103,3 +116,7 @@ has_one {W} E a b ma mb =
     let square : IsSquare (length a.classes) b.edges = subst (λ (z : List (List Range)). IsSquare (length z) b.edges) (sym classes) mb.square in
     let edges : a.edges ≡ b.edges = same_edges (length a.classes) a.edges b.edges ma.square square (edges_agree E a b ma mb classes) in
     λ i. record { classes = classes i; edges = edges i }
+
+-- so is the matrix that was made
+pub coarsest_of : {W : ℕ} {F : Type 0} (E : ℕ → ℕ → Type 0) (r : Result (Matrix W) F) → IfOk r (IsMatrix E) → IfOk r (λ matrix. IsCoarsest W E matrix.classes)
+coarsest_of {W} E r h = IfOk-weaker r _ _ (λ matrix is. is_coarsest E matrix is) h

@@ -5,6 +5,7 @@ use Rattle.interval_set.specs.Numbers.{has}
 use Rattle.interval_set.proofs.Same.{by_numbers}
 use Rattle.ip_partition.specs.Partition.{IsIn, IsPartition}
 use Rattle.service_matrix.specs.Classes.{Ordered}
+use Rattle.service_matrix.specs.Matrices.{AreTogether}
 
 pub same_bool : (x y : Bool) → (x ≡ true → y ≡ true) → (y ≡ true → x ≡ true) → x ≡ y
 same_bool true true f g = refl
@@ -15,12 +16,8 @@ same_bool false false f g = refl
 pub of_partition : (w : ℕ) (classes : List (List Range)) → IsPartition w classes → Ordered w classes
 of_partition w classes p = record { sets = p.sets; some = p.some; apart = p.apart; ordered = p.ordered }
 
--- both numbers lie in one class
-abbrev pub Together : List (List Range) → ℕ → ℕ → Type 0
-Together classes n m = (i : ℕ) × IsIn classes i n × IsIn classes i m
-
 abbrev pub SameClasses : List (List Range) → List (List Range) → Type 0
-SameClasses xs ys = (n m : ℕ) → Together xs n m → Together ys n m
+SameClasses xs ys = (n m : ℕ) → AreTogether xs n m → AreTogether ys n m
 
 pub head_has : (c : List Range) (cs : List (List Range)) (n : ℕ) → IsIn (c ∷ cs) 0 n → has c n ≡ true
 head_has c cs n x = let e : x.0 ≡ c = cc (x.1) in subst (λ (z : List Range). has z n ≡ true) e x.2
@@ -73,7 +70,7 @@ module _ (w : ℕ) (a b : List Range) (xs ys : List (List Range)) (oa : Ordered 
   pub heads : a ≡ b
   heads = by_numbers w a b (oa.sets).0 (ob.sets).0 (λ n. same_bool (has a n) (has b n) (right_way n) (left_way n))
 
-  tail_at : (n m i : ℕ) → IsIn xs i n → IsIn xs i m → (j : ℕ) → IsIn (b ∷ ys) j n → IsIn (b ∷ ys) j m → Together ys n m
+  tail_at : (n m i : ℕ) → IsIn xs i n → IsIn xs i m → (j : ℕ) → IsIn (b ∷ ys) j n → IsIn (b ∷ ys) j m → AreTogether ys n m
   tail_at n m i x y zero u v =
       let e : suc i ≡ 0 = oa.apart (suc i) 0 n x (head_in a xs n (left_way n (head_has b ys n u))) in absurd (omega (arith, e))
   tail_at n m i x y (suc j) u v = (j, u, v)

@@ -1,6 +1,7 @@
 -- One pass over the rules, rule by rule.
-use Rattle.std.proofs.Common.{◌≡◌, ℕ, ◌<◌, Bool, true, false, not, ◌&&◌, ◌||◌, List, [], ◌∷◌, ◌++◌, if◌then◌else◌, Option, None, Some, Result, IfOk, subst, unwrap_or, ◌+◌, length, get_or, drop, refl, sym, ◌∙◌, ap, arith}
+use Rattle.std.proofs.Common.{◌≡◌, ℕ, ◌<◌, Bool, true, false, not, ◌&&◌, ◌||◌, List, [], ◌∷◌, ◌++◌, if◌then◌else◌, Option, None, Some, Result, Ok, Err, IfOk, subst, unwrap_or, ◌+◌, ◌^◌, nat_lt, length, get_or, take, drop, refl, sym, ◌∙◌, ap, arith}
 use Rattle.std.specs.Option.{option_or}
+use Rattle.std.proofs.lemmas.List.{take-append-drop}
 use Rattle.interval_set.specs.declared.set.Range.{Range}
 use Rattle.interval_set.specs.Numbers.{has}
 use Rattle.box_norm.specs.declared.cube.Cube.{Cube}
@@ -14,8 +15,9 @@ use Rattle.name_set.specs.Names.{has_name}
 use Rattle.service_packet.specs.declared.service.Service.{Service}
 use Rattle.service_packet.specs.Packets.{opening_flags, service_packet}
 use Rattle.service_matrix.specs.declared.rows.Fixed.{Fixed}
+use Rattle.service_matrix.specs.declared.rows.Part.{Part}
 use Rattle.service_matrix.proofs.Joins.{drop_at}
-use Rattle.service_matrix.specs.Passes.{AnswerAlike, packet_at, accepts_at, near, far}
+use Rattle.service_matrix.specs.Passes.{AnswerAlike, Tells, packet_at, near, far}
 use Rattle.service_matrix.specs.Services.{accepts_service}
 use Rattle.primitives.specs.declared.prim.Packet.{Packet}
 
@@ -131,10 +133,14 @@ module _ {W : ℕ} (service : Service) where
   pub same_accepted : (kept rules : List (SimpleRule W)) → AnswerAlike service kept rules → (policy : Verdict) → accepts_service kept policy service ≡ accepts_service rules policy service
   same_accepted kept rules e policy = λ i s d. unwrap_or (e s d i) (is_accept policy)
 
-module _ {W : ℕ} (fixed : Fixed) (policy : Verdict) (service : Service) (here : ℕ) where
+module _ {W : ℕ} (fixed : Fixed) (otherwise : Bool) (service : Service) (here : ℕ) where
+  -- what some rules answer
+  abbrev pub answered : List (SimpleRule W) → ℕ → Bool
+  answered rules there = unwrap_or (first_of rules (packet_at fixed service here there)) otherwise
+
   -- what the sets so far and the rules that are left accept
   abbrev pub left : List Range → List Range → List (SimpleRule W) → ℕ → Bool
-  left free accepted rules there = has accepted there || (has free there && accepts_at fixed rules policy service here there)
+  left free accepted rules there = has accepted there || (has free there && answered rules there)
 
   module _ (rule : SimpleRule W) (rules : List (SimpleRule W)) (free accepted : List Range) where
     abbrev Before : ℕ → Bool
@@ -152,8 +158,8 @@ module _ {W : ℕ} (fixed : Fixed) (policy : Verdict) (service : Service) (here 
         rw (is there, o there, a there) (by (has set there) (has free there) (has accepted there) rule.accept)
       where
         by : (s o a v : Bool) →
-            (a || (o && unwrap_or (if s then Some v else first_of rules (packet_at fixed service here there)) (is_accept policy)))
-            ≡ ((a || (v && (o && s))) || ((o && not s) && accepts_at fixed rules policy service here there))
+            (a || (o && unwrap_or (if s then Some v else first_of rules (packet_at fixed service here there)) otherwise))
+            ≡ ((a || (v && (o && s))) || ((o && not s) && answered rules there))
         by true true true v = refl
         by true true false true = refl
         by true true false false = refl
@@ -167,14 +173,6 @@ module _ {W : ℕ} (fixed : Fixed) (policy : Verdict) (service : Service) (here 
         by false false false true = refl
         by false false false false = refl
 
-  -- nothing is left
-  pub nothing_left : (free accepted : List Range) (rules : List (SimpleRule W)) → free ≡ [] → (there : ℕ) → left free accepted rules there ≡ has accepted there
-  nothing_left free accepted rules e there = rw e (none (has accepted there))
-    where
-      none : (a : Bool) → (a || false) ≡ a
-      none true = refl
-      none false = refl
-
   -- the rules from a place on
   module _ (rules : List (SimpleRule W)) (i : ℕ) (rule : SimpleRule W) (inside : i < length rules) (is : rule ≡ get_or rules i rule) (free accepted : List Range) where
     pub passed_at : ((there : ℕ) → holds_cube rule.cube (packet_at fixed service here there) ≡ false) → (there : ℕ) → left free accepted (drop (i + 1) rules) there ≡ left free accepted (drop i rules) there
@@ -184,6 +182,52 @@ module _ {W : ℕ} (fixed : Fixed) (policy : Verdict) (service : Service) (here 
         ((n : ℕ) → has free' n ≡ (has free n && not (has set n))) → ((n : ℕ) → has accepted' n ≡ (has accepted n || (rule.accept && (has free n && has set n)))) →
         (there : ℕ) → left free' accepted' (drop (i + 1) rules) there ≡ left free accepted (drop i rules) there
     taken_at set free' accepted' holds o a there = sym (ap (λ z. left free accepted z there) (drop_at rules i rule inside is) ∙ taken rule (drop (i + 1) rules) free accepted set free' accepted' holds o a there)
+
+-- both halves of a list
+module _ {W : ℕ} where
+  first_of_both : (front back : List (SimpleRule W)) (p : Packet) → first_of (front ++ back) p ≡ option_or (first_of front p) (first_of back p)
+  first_of_both [] back p = refl
+  first_of_both (rule ∷ front) back p = more (holds_cube rule.cube p) (first_of_both front back p)
+    where
+      more : (b : Bool) → first_of (front ++ back) p ≡ option_or (first_of front p) (first_of back p) →
+          (if b then Some rule.accept else first_of (front ++ back) p) ≡ option_or (if b then Some rule.accept else first_of front p) (first_of back p)
+      more true e = refl
+      more false e = e
+
+  first_of_halves : (half : ℕ) (rules : List (SimpleRule W)) (p : Packet) → first_of rules p ≡ option_or (first_of (take half rules) p) (first_of (drop half rules) p)
+  first_of_halves half rules p = ap (λ z. first_of z p) (sym (take-append-drop half rules)) ∙ first_of_both (take half rules) (drop half rules) p
+
+-- what the first part accepts, and where it tells nothing what the second accepts
+told : (n a u c v : Bool) (f g : Option Bool) → ((b : Bool) → (a || (u && b)) ≡ (n && unwrap_or f b)) → ((b : Bool) → (c || (v && b)) ≡ (n && unwrap_or g b)) →
+    (b : Bool) → ((a || (u && c)) || ((u && v) && b)) ≡ (n && unwrap_or (option_or f g) b)
+told n a u c v None g one two b = grind (arith, one true, one false, two b)
+told n a u c v (Some x) g one two b = grind (arith, one true, one false)
+
+-- the first part leaves nothing
+told_at_once : (n a u : Bool) (f g : Option Bool) → u ≡ false → ((b : Bool) → (a || (u && b)) ≡ (n && unwrap_or f b)) → (b : Bool) → (a || (u && b)) ≡ (n && unwrap_or (option_or f g) b)
+told_at_once n a u None g e one b = grind (arith, e, one true, one false)
+told_at_once n a u (Some x) g e one b = one b
+
+module _ {W : ℕ} (fixed : Fixed) (rules : List (SimpleRule W)) (service : Service) (here half : ℕ) (first : Part W) (one : Tells fixed (take half rules) service here first) where
+  of_all : (there : ℕ) (b : Bool) → (nat_lt there (2 ^ W) && unwrap_or (option_or (first_of (take half rules) (packet_at fixed service here there)) (first_of (drop half rules) (packet_at fixed service here there))) b)
+      ≡ (nat_lt there (2 ^ W) && unwrap_or (first_of rules (packet_at fixed service here there)) b)
+  of_all there b = ap (λ z. nat_lt there (2 ^ W) && unwrap_or z b) (sym (first_of_halves half rules (packet_at fixed service here there)))
+
+  -- the first half leaves nothing
+  pub first_tells : first.undecided ≡ [] → Tells fixed rules service here first
+  first_tells e there b =
+      told_at_once _ _ _ (first_of (take half rules) (packet_at fixed service here there)) (first_of (drop half rules) (packet_at fixed service here there))
+      (ap (λ (set : List Range). has set there) e) (one there) b
+      ∙ of_all there b
+
+  -- both halves together
+  pub both_tell : {E : Type 0} (second : Part W) → Tells fixed (drop half rules) service here second → (r : Result (Part W) E) →
+      IfOk r (λ part. (n : ℕ) → has part.accepted n ≡ (has first.accepted n || (has first.undecided n && has second.accepted n))) →
+      IfOk r (λ part. (n : ℕ) → has part.undecided n ≡ (has first.undecided n && has second.undecided n)) → IfOk r (Tells fixed rules service here)
+  both_tell second two (Ok part) a u = λ there b.
+      rw (a there, u there) (told _ _ _ _ _ (first_of (take half rules) (packet_at fixed service here there)) (first_of (drop half rules) (packet_at fixed service here there)) (one there) (two there) b)
+      ∙ of_all there b
+  both_tell second two (Err e) a u = tt
 
 -- what is told of a result with one function holds with an equal one
 pub over_ok : {X E F : Type 0} (r : Result X E) (Q : F → X → Type 0) {f g : F} → f ≡ g → IfOk r (Q f) → IfOk r (Q g)

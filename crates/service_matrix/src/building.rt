@@ -1,14 +1,13 @@
-ghost use Rattle.std.specs.Prelude.{ℕ, ◌≡◌, ◌<◌, ◌^◌, Some, slice_get, IfErr, IfOk, OnOk};
+ghost use Rattle.std.specs.Prelude.{ℕ, ◌<◌, ◌^◌, IfErr, IfOk, OnOk};
 ghost use Rattle.interval_set.specs.Numbers.{IsWidth};
 ghost use Rattle.fw_rule.specs.Calls.{HasRoom};
-ghost use Rattle.fw_rule.specs.declared.rule.Chain.{Chain};
 ghost use Rattle.chain_graph.specs.Paths.{CallsNameChains};
 ghost use Rattle.closure.specs.Checked.{HasPolicy};
 ghost use Rattle.primitives.specs.Holds.{IsValid};
 ghost use Rattle.service_packet.specs.Packets.{service_packet};
 ghost use Rattle.ip_partition.specs.Groups.{AreGroups, HasFewBoundaries};
 ghost use Rattle.service_matrix.specs.Grouped.{GoesTo, RefusesGroups};
-ghost use Rattle.service_matrix.specs.Matrices.{IsMatrix};
+ghost use Rattle.service_matrix.specs.Matrices.{IsCoarsest, IsMatrix};
 ghost use Rattle.service_matrix.specs.Refusals.{HasFewAtoms, HasFewSets, RefusesMatrix, RefusesSets};
 ghost use Rattle.service_matrix.specs.Services.{Edge, HoldsOfAllNames};
 
@@ -16,8 +15,8 @@ use crate::classes::{addresses, edges};
 use crate::joining::joined;
 use crate::sets::address_sets;
 use crate::table::Matrix;
-use closure::Side;
-use fw_rule::{Dump, Verdict};
+use closure::{Side, policy_of};
+use fw_rule::Dump;
 use interval_set::Set;
 use ip_partition::{GroupFault, groups};
 use match_expr::List;
@@ -25,18 +24,6 @@ use primitives::Prim_;
 use service_packet::Service;
 use simple_filter::{Hide, Kind, Refusal, abstracted, closed, hiding_keeps_calls};
 use std::alloc::Global;
-
-/// The policy of a chain that has one.
-fn policy_of<const W: u32>(dump: &Dump<Prim_<W>>, chain: u32) -> Verdict
-    requires { HasPolicy dump.now chain }
-    ensures { (here : Chain (Prim_ W)) → slice_get dump.now.chains chain ≡ Some here → here.policy ≡ Some result }
-{
-    let here = &dump.chains.as_slice()[chain as usize];
-    match here.policy {
-        Some(policy) => policy,
-        None => unreachable!(),
-    }
-}
 
 /// Each packet that opens the service between addresses is valid.
 fn packets_are_valid(alloc: Global, service: &Service)
@@ -88,8 +75,8 @@ fn plain_matrix<const W: u32>(
 }
 
 /// The matrix of a service in a chain: an edge goes from one class to another exactly where, with the tests of interface names hidden,
-/// the service's packet from each address of the one to each of the other may (Upper) or must (Lower) be accepted. No partition with this
-/// property has fewer classes. The chain has a policy. W is 32 or 128.
+/// the service's packet from each address of the one to each of the other may (Upper) or must (Lower) be accepted. Every other partition
+/// with this property is finer. The chain has a policy. W is 32 or 128.
 ///
 /// # Errors
 ///
@@ -107,6 +94,7 @@ pub fn matrix<const W: u32>(
     requires room { HasRoom dump.now }
     requires named { CallsNameChains dump.now }
     ensures matrix { IfOk result (IsMatrix (Edge side dump.now chain service.now)) }
+    ensures coarsest { IfOk result (λ matrix. IsCoarsest W (Edge side dump.now chain service.now) matrix.classes) }
     ensures names { IfOk result (HoldsOfAllNames side dump.now chain service.now) }
     ensures few { OnOk result (HasFewAtoms side dump.now chain) }
     ensures refused { IfErr result (RefusesMatrix side dump.now chain) }

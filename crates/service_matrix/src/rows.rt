@@ -3,7 +3,7 @@ ghost use Rattle.interval_set.specs.Numbers.{IsWidth, has};
 ghost use Rattle.box_norm.specs.Cubes.{holds_cube};
 ghost use Rattle.closure.specs.Sides.{is_accept};
 ghost use Rattle.service_matrix.specs.Passes as spec;
-ghost use Rattle.service_matrix.specs.Passes.{AnswerAlike, StandAlike, accepts_at};
+ghost use Rattle.service_matrix.specs.Passes.{AnswerAlike, StandAlike, Tells, accepts_at};
 ghost use Rattle.service_packet.specs.Packets.{service_packet};
 ghost use Rattle.service_matrix.specs.Services.{IsColumn, IsRow};
 
@@ -157,6 +157,82 @@ fn with_policy<const W: u32>(
     }
 }
 
+/// What a part of the list tells of the other addresses: those that it accepts, and those of which no rule of it tells.
+#[derive(Drop)]
+struct Part<const W: u32> {
+    accepted: Set<W>,
+    undecided: Set<W>,
+}
+
+/// What some rules tell, gone through one after another.
+fn by_rules<const W: u32>(
+    alloc: Global,
+    rules: &[SimpleRule<W>],
+    service: &Service,
+    fixed: Fixed,
+    here: u128,
+) -> Result<Part<W>, AllocError>
+    requires { IsWidth W }
+    ensures { IfOk result (Tells fixed rules.now service.now here) }
+{
+    let mut undecided = Set::<W>::full(alloc)?;
+    let mut accepted = Set::<W>::empty(alloc);
+    for rule in rules {
+        let Some(others) = partners(alloc, &rule.cube, service, fixed, here) else {
+            continue;
+        };
+        accepted = decided(alloc, accepted, &undecided, others, rule.accept)?;
+        undecided = undecided.minus(alloc, others)?;
+    }
+    Ok(Part {
+        accepted,
+        undecided,
+    })
+}
+
+/// What two parts of the list tell together: the second one has a say where the first leaves an address undecided.
+fn then<const W: u32>(
+    alloc: Global,
+    first: &Part<W>,
+    second: &Part<W>,
+) -> Result<Part<W>, AllocError>
+    ensures accepted { IfOk result (λ part. (n : ℕ) → has part.accepted n ≡ (has first.now.accepted n || (has first.now.undecided n && has second.now.accepted n))) }
+    ensures undecided { IfOk result (λ part. (n : ℕ) → has part.undecided n ≡ (has first.now.undecided n && has second.now.undecided n)) }
+{
+    let later = first.undecided.and(alloc, &second.accepted)?;
+    Ok(Part {
+        accepted: first.accepted.or(alloc, &later)?,
+        undecided: first.undecided.and(alloc, &second.undecided)?,
+    })
+}
+
+/// The most rules that are gone through one after another.
+const FEW_RULES: usize = 16;
+
+/// What some rules tell. Both halves of a long list are asked, the second only where the first leaves some address undecided; so each
+/// range of an address set is taken up once for each doubling of the list, and not once for each rule.
+fn by_halves<const W: u32>(
+    alloc: Global,
+    rules: &[SimpleRule<W>],
+    service: &Service,
+    fixed: Fixed,
+    here: u128,
+) -> Result<Part<W>, AllocError>
+    requires { IsWidth W }
+    ensures { IfOk result (Tells fixed rules.now service.now here) }
+{
+    if rules.len() <= FEW_RULES {
+        return by_rules(alloc, rules, service, fixed, here);
+    }
+    let (front, back) = rules.split_at(rules.len() / 2);
+    let first = by_halves(alloc, front, service, fixed, here)?;
+    if first.undecided.is_empty() {
+        return Ok(first);
+    }
+    let second = by_halves(alloc, back, service, fixed, here)?;
+    then(alloc, &first, &second)
+}
+
 /// The other addresses between which and the fixed one some rules, read by first match, or else the policy accept the service's packet.
 pub(crate) fn accepted<const W: u32>(
     alloc: Global,
@@ -169,23 +245,15 @@ pub(crate) fn accepted<const W: u32>(
     requires { IsWidth W }
     ensures { IfOk result (λ set. (there : ℕ) → has set there ≡ (nat_lt there (2 ^ W) && accepts_at fixed rules.now policy service.now here there)) }
 {
-    let mut undecided = Set::<W>::full(alloc)?;
-    let mut accepted = Set::<W>::empty(alloc);
-    for rule in rules {
-        let Some(others) = partners(alloc, &rule.cube, service, fixed, here) else {
-            continue;
-        };
-        accepted = decided(alloc, accepted, &undecided, others, rule.accept)?;
-        undecided = undecided.minus(alloc, others)?;
-        if undecided.is_empty() {
-            return Ok(accepted);
-        }
-    }
+    let Part {
+        accepted,
+        undecided,
+    } = by_halves(alloc, rules, service, fixed, here)?;
     with_policy(alloc, accepted, &undecided, policy)
 }
 
-/// The addresses to which some rules, read by first match, or else the policy accept the service's packet from `s`. The rules are gone
-/// through once. W is 32 or 128. The one refusal is want of memory.
+/// The addresses to which some rules, read by first match, or else the policy accept the service's packet from `s`. Each rule is
+/// looked at once at most. W is 32 or 128. The one refusal is want of memory.
 pub fn row<const W: u32>(
     alloc: Global,
     rules: &[SimpleRule<W>],
@@ -200,8 +268,8 @@ pub fn row<const W: u32>(
     accepted(alloc, rules, policy, service, Fixed::Source, s)
 }
 
-/// The addresses from which some rules, read by first match, or else the policy accept the service's packet to `d`. The rules are gone
-/// through once. W is 32 or 128. The one refusal is want of memory.
+/// The addresses from which some rules, read by first match, or else the policy accept the service's packet to `d`. Each rule is
+/// looked at once at most. W is 32 or 128. The one refusal is want of memory.
 pub fn column<const W: u32>(
     alloc: Global,
     rules: &[SimpleRule<W>],

@@ -1,8 +1,8 @@
 ghost use Rattle.std.specs.Prelude.{◌≡◌, ◌<◌, ◌^◌, length, false, MatchOption};
 ghost use Rattle.std.specs.List.{AllByRecursion};
 ghost use Rattle.interval_set.specs.Numbers.{has};
-ghost use Rattle.ip_partition.specs.Partition.{IsIn, IsPartition};
-ghost use Rattle.service_matrix.specs.Matrices.{IsEdgeBetween, IsSquare};
+ghost use Rattle.ip_partition.specs.Partition.{IsIn};
+ghost use Rattle.service_matrix.specs.Matrices.{AreDisjoint, Covers, IsEdgeBetween, IsSquare};
 
 use interval_set::Set;
 use match_expr::List;
@@ -29,10 +29,11 @@ fn class_of<const W: u32>(classes: &[Set<W>], address: u128) -> Option<usize>
 }
 
 impl<const W: u32> Matrix<W> {
-    /// Whether an edge goes from the class of the one address to the class of the other. The classes are a partition, and the edges
-    /// have a row for each class with an entry for each class, as those that `matrix` gives.
+    /// Whether an edge goes from the class of the one address to the class of the other. The classes cover all addresses, no two of them
+    /// share one, and the edges have a row for each class with an entry for each class, as those that `matrix` gives.
     pub fn edge(&self, s: u128, d: u128) -> bool
-        requires partition { IsPartition W self.now.classes }
+        requires covers { Covers W self.now.classes }
+        requires disjoint { AreDisjoint self.now.classes }
         requires square { IsSquare (length self.now.classes) self.now.edges }
         requires source { s < 2 ^ W }
         requires destination { d < 2 ^ W }

@@ -1,5 +1,6 @@
-ghost use Rattle.std.specs.Prelude.{IsTrue};
+ghost use Rattle.std.specs.Prelude.{IfOk, IsTrue, length};
 ghost use Rattle.closure.specs.Checked.{HasPolicy};
+ghost use Rattle.service_matrix.specs.Matrices.{AreDisjoint, Covers, IsSquare};
 
 use super::*;
 use box_norm::{SimpleRule, whole};
@@ -73,7 +74,11 @@ fn has_policy(dump: &Dump<Prim_<32>>, chain: u32) -> bool
 }
 
 /// The matrix of the first chain.
-fn matrix_of(alloc: Global, dump: &Dump<Prim_<32>>, side: Side) -> Result<Matrix<32>, Fail> {
+fn matrix_of(alloc: Global, dump: &Dump<Prim_<32>>, side: Side) -> Result<Matrix<32>, Fail>
+    ensures covers { IfOk result (λ matrix. Covers 32 matrix.classes) }
+    ensures disjoint { IfOk result (λ matrix. AreDisjoint matrix.classes) }
+    ensures square { IfOk result (λ matrix. IsSquare (length matrix.classes) matrix.edges) }
+{
     if !has_policy(dump, 0) {
         return Err("no policy".into());
     }
@@ -184,6 +189,44 @@ fn a_row_has_destinations_and_a_column_has_sources(rt: HostRuntime) -> Result<()
     assert!(rt; from.same(&Set::range(alloc, 0x0A00_0000, 0x0AFF_FFFF)?));
     let none = row(alloc, rules.as_slice(), Verdict::Drop, &ssh(), 0x0B00_0000)?;
     assert!(rt; none.is_empty());
+    Ok(())
+}
+
+#[test]
+fn an_edge_between_addresses_is_that_of_their_classes(rt: HostRuntime) -> Result<(), Fail> {
+    let alloc = rt.alloc();
+    let dump = one_rule(alloc, to_one_host(alloc)?, Action::Accept, Verdict::Drop)?;
+    let matrix = matrix_of(alloc, &dump, Side::Upper)?;
+    assert!(rt; matrix.edge(0x0A01_0203, 0xC0A8_0001));
+    assert!(rt; !matrix.edge(0xC0A8_0001, 0x0A01_0203));
+    assert!(rt; !matrix.edge(0x0B00_0000, 0xC0A8_0001));
+    Ok(())
+}
+
+/// A rule that drops from an address to itself.
+fn barred(alloc: Global, host: u32) -> Result<SimpleRule<32>, AllocError> {
+    let address = u128::from(host);
+    let mut cube = whole(alloc)?;
+    cube.src = Set::range(alloc, address, address)?;
+    cube.dst = Set::range(alloc, address, address)?;
+    Ok(SimpleRule {
+        cube,
+        accept: false,
+    })
+}
+
+#[test]
+fn a_row_of_many_rules_is_read_by_first_match(rt: HostRuntime) -> Result<(), Fail> {
+    let alloc = rt.alloc();
+    let mut rules = Vec::new(alloc);
+    for host in 0..100u32 {
+        rules.push(barred(alloc, host)?)?;
+    }
+    let mut cube = whole(alloc)?;
+    cube.dst = Set::range(alloc, 0, 49)?;
+    rules.push(SimpleRule { cube, accept: true })?;
+    let to = row(alloc, rules.as_slice(), Verdict::Drop, &ssh(), 20)?;
+    assert!(rt; to.same(&Set::range(alloc, 0, 19)?.or(alloc, &Set::range(alloc, 21, 49)?)?));
     Ok(())
 }
 

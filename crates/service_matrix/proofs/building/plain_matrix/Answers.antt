@@ -24,7 +24,7 @@ joined-requires g c =
     let are = subst (λ (z : List (List Range)). AreAddressSets c.args.dump.now c.args.chain z) (sym c.as_slice.ensures.value) c.in_ok-sets.ensures in
     let groups = subst (λ (z : List (List Range)). AreGroups g.row.W c.as_slice.result.now z) (sym c.as_slice-2.ensures) c.in_ok-groups.ensures.groups in
     let accepts = subst (λ (z : List (SimpleRule g.row.W)). Accepts c.args.side c.args.dump.now c.args.chain c.policy_of-policy.result z) (sym c.as_slice-3.ensures)
-    (c.in_ok-rules.ensures.meaning (c.requires.policy).0 c.policy_of-policy.result (c.requires.policy).2 (c.policy_of-policy.ensures (c.requires.policy).0 (c.requires.policy).2)) in
+    (c.in_ok-rules.ensures.meaning (c.policy_of-policy.ensures).0 c.policy_of-policy.result (c.policy_of-policy.ensures).1 (c.policy_of-policy.ensures).2) in
     let order = of_partition g.row.W c.as_slice-2.result.now groups.partition in
     let alike = are_groups c.args.dump.now c.args.chain c.as_slice.result.now are c.args.service.now c.as_slice-2.result.now groups c.args.side c.policy_of-policy.result c.as_slice-3.result.now accepts
     (λ s d x y. c.packets_are_valid.ensures g.row.W s d x y) in
@@ -35,7 +35,7 @@ returns-clause-matrix g c =
     let are = subst (λ (z : List (List Range)). AreAddressSets c.args.dump.now c.args.chain z) (sym c.as_slice.ensures.value) c.in_ok-sets.ensures in
     let groups = subst (λ (z : List (List Range)). AreGroups g.row.W c.as_slice.result.now z) (sym c.as_slice-2.ensures) c.in_ok-groups.ensures.groups in
     let accepts = subst (λ (z : List (SimpleRule g.row.W)). Accepts c.args.side c.args.dump.now c.args.chain c.policy_of-policy.result z) (sym c.as_slice-3.ensures)
-    (c.in_ok-rules.ensures.meaning (c.requires.policy).0 c.policy_of-policy.result (c.requires.policy).2 (c.policy_of-policy.ensures (c.requires.policy).0 (c.requires.policy).2)) in
+    (c.in_ok-rules.ensures.meaning (c.policy_of-policy.ensures).0 c.policy_of-policy.result (c.policy_of-policy.ensures).1 (c.policy_of-policy.ensures).2) in
     is_matrix (accepts_service c.as_slice-3.result.now c.policy_of-policy.result c.args.service.now) c.as_slice-2.result.now c.in_ok-classes.classes.items c.in_ok-classes.ensures groups.partition
     (GoesTo c.args.side c.args.dump.now c.args.chain c.args.service.now)
     (means c.args.dump.now c.args.chain c.as_slice.result.now are c.args.service.now c.as_slice-2.result.now groups c.args.side c.policy_of-policy.result c.as_slice-3.result.now accepts
