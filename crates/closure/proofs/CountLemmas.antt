@@ -20,14 +20,12 @@ use Rattle.closure.specs.declared.modes.Mode.TheVariants.{Hard, Soft}
 use Rattle.closure.specs.declared.modes.Row.{Row}
 use Rattle.closure.specs.declared.sides.Side.{Side}
 use Rattle.closure.specs.Checked.{IsChecked}
-use Rattle.closure.specs.Rewriting.{Tree, nodes, kind, items, tree, rules_at, greatest_depth}
-use Rattle.closure.specs.Rows.{row_of, shape}
+use Rattle.closure.specs.Rewriting.{Tree, nodes, kind, row_of, shape, items, tree, rules_at, greatest_depth}
 use Rattle.closure.specs.Counts.{capped, in_mode, entry, row_items, rule_items, rules_items}
 use Rattle.closure.specs.Counted.{counts_of, IsCounted, AreCounted}
 use Rattle.closure.proofs.Depths.{items_same, same_tree}
 use Rattle.closure.proofs.FlatLemmas.{run_kind, calls, within_some}
 use Rattle.closure.proofs.RankReads.{rank_at, rank_is, within_rank, within_limit}
-use Rattle.closure.proofs.RowLemmas.{row_is}
 use Rattle.closure.proofs.NodeLemmas.{tree_nodes}
 
 same_rank : {a b : ℕ} → Some (Some a) ≡ Some (Some b) → a ≡ b
@@ -83,7 +81,6 @@ module _ {P : Type 0} where
         shape_items callee same (entry table) (rules_items side table rules) (items side callee rules) mode e (ap (λ (z : Counts). z.soft) rest) (known_of rule)
         (row_of side (doubt_in rule.lits) (kind side rule.action) mode)
         (λ c m r. table_is c (calls side rule.action c (run_kind side (doubt_in rule.lits) (kind side rule.action) mode m c (sym r)).0))
-        ∙ ap (λ (z : Tree P). capped (nodes z)) (sym (row_is side callee (known_of rule) (items side callee rules) (doubt_in rule.lits) (kind side rule.action) mode))
 
     -- it is enough that the table has the numbers of the called chains
     pub rules_counted : (rules : List (Rule P)) → ((i : ℕ) (rule : Rule P) (k : ℕ) → slice_get rules i ≡ Some rule → rule.action ≡ Action.Call k → entry table k ≡ counts_of (callee k)) →

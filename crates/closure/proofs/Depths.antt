@@ -1,5 +1,5 @@
 -- A chain's tree is the same for each depth that bounds its calls.
-use Rattle.std.proofs.Common.{◌≡◌, ℕ, zero, suc, List, [], ◌∷◌, Option, None, Some, slice_get, refl, sym, ◌∙◌, ap}
+use Rattle.std.proofs.Common.{◌≡◌, ℕ, zero, suc, List, [], ◌∷◌, Option, None, Some, slice_get, refl, sym, ap}
 use Rattle.match_expr.specs.declared.expr.Expr.{Expr}
 use Rattle.fw_rule.specs.declared.rule.Action.{Action}
 use Rattle.fw_rule.specs.declared.rule.Rule.{Rule}
@@ -12,10 +12,8 @@ use Rattle.closure.specs.declared.modes.Mode.{Mode}
 use Rattle.closure.specs.declared.modes.Mode.TheVariants.{Soft}
 use Rattle.closure.specs.declared.modes.Row.{Row}
 use Rattle.closure.specs.declared.sides.Side.{Side}
-use Rattle.closure.specs.Rewriting.{Tree, Decide, Leave, kind, items, rules_at, rules_of, tree}
-use Rattle.closure.specs.Rows.{row_of, shape}
+use Rattle.closure.specs.Rewriting.{Tree, Decide, Leave, kind, row_of, shape, items, rules_at, rules_of, tree}
 use Rattle.closure.proofs.FlatLemmas.{run_kind, calls}
-use Rattle.closure.proofs.RowLemmas.{row_is}
 
 module _ {P : Type 0} where
   -- a rule of the chain's list stands in the chain
@@ -37,10 +35,8 @@ module _ {P : Type 0} where
         (mode : Mode) → items side a rules mode ≡ items side b rules mode
     items_same side [] same mode = refl
     items_same side (rule ∷ rules) same mode =
-        row_is side a (known_of rule) (items side a rules) (doubt_in rule.lits) (kind side rule.action) mode
-        ∙ shape_same (known_of rule) (items side a rules) (items side b rules) (items_same side rules (λ i r k m e q. same (suc i) r k m e q)) mode (row_of side (doubt_in rule.lits) (kind side rule.action) mode)
+        shape_same (known_of rule) (items side a rules) (items side b rules) (items_same side rules (λ i r k m e q. same (suc i) r k m e q)) mode (row_of side (doubt_in rule.lits) (kind side rule.action) mode)
         (λ c m e. same 0 rule c m refl (calls side rule.action c (run_kind side (doubt_in rule.lits) (kind side rule.action) mode m c (sym e)).0))
-        ∙ sym (row_is side b (known_of rule) (items side b rules) (doubt_in rule.lits) (kind side rule.action) mode)
 
   pub same_tree : (side : Side) (dump : Dump P) (d e c : ℕ) → Within dump d c → Within dump e c → (mode : Mode) → tree side dump d c mode ≡ tree side dump e c mode
   same_tree side dump zero e c w v mode = elim w [ ]

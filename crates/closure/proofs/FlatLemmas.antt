@@ -16,10 +16,8 @@ use Rattle.closure.specs.declared.modes.Escape.{Escape}
 use Rattle.closure.specs.declared.modes.Mode.{Mode}
 use Rattle.closure.specs.declared.modes.Mode.TheVariants.{Hard, Soft}
 use Rattle.fw_rule.specs.Matching.{known_of, doubt_in}
-use Rattle.closure.specs.Rewriting.{Tree, Leave, Block, kind, items, rules_of, tree}
-use Rattle.closure.specs.Rows.{row_of, shape, level}
+use Rattle.closure.specs.Rewriting.{Tree, Leave, Block, level, kind, row_of, shape, items, rules_of, tree}
 use Rattle.closure.specs.Flat.{escape, carried, stayed, escapes}
-use Rattle.closure.proofs.RowLemmas.{row_is}
 
 pub escape_first : {P : Type 0} (past : List (Expr P)) (n : ℕ) (e : Expr P) (rest : List (Escape P)) → escape past n e rest ≡ escape past n e [] ++ rest
 escape_first past zero e rest = refl
@@ -88,7 +86,7 @@ pub items_at : {P : Type 0} (side : Side) (callee : ℕ → Mode → Tree P) (ru
     slice_get rules n ≡ Some rule → r ≡ row_of side (doubt_in rule.lits) (kind side rule.action) mode →
     items side callee (drop n rules) mode ≡ shape callee (known_of rule) (λ (m : Mode). items side callee (drop (n + 1) rules) m) mode r
 items_at side callee rules n rule mode r e q =
-    rw (drop_at rules n rule e, q) (row_is side callee (known_of rule) (λ (m : Mode). items side callee (drop (n + 1) rules) m) (doubt_in rule.lits) (kind side rule.action) mode)
+    rw (drop_at rules n rule e, q) refl
 
 module _ {P : Type 0} (past : List (Expr P)) (k : Expr P) (found E : List (Escape P)) where
   pub left_escapes : (n : ℕ) (rest : Tree P) (past' : List (Expr P)) (found' : List (Escape P)) → past' ≡ past ++ Not k ∷ [] → found' ≡ found ++ escape past n k [] →

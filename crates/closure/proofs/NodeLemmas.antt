@@ -9,12 +9,12 @@ use Rattle.closure.specs.declared.modes.Kind.TheVariants.{GoodVerdict, BadVerdic
 use Rattle.closure.specs.declared.modes.Mode.{Mode}
 use Rattle.closure.specs.declared.modes.Mode.TheVariants.{Hard, Soft}
 use Rattle.fw_rule.specs.Matching.{known_of, doubt_in}
-use Rattle.closure.specs.Rewriting.{Tree, nodes, row, items, tree, kind, rules_of}
+use Rattle.closure.specs.Rewriting.{Tree, nodes, row_of, shape, items, tree, kind, rules_of}
 
 module _ {P : Type 0} (side : Side) where
   row_nodes : (callee : ℕ → Mode → Tree P) → ((c j : ℕ) → nodes (callee c (Soft (suc j))) ≡ nodes (callee c Hard)) → (k : Expr P) (rest : Mode → Tree P) (j : ℕ) →
       nodes (rest (Soft (suc j))) ≡ nodes (rest Hard) → (d : Bool) (what : Kind) →
-      nodes (row side callee k rest d what (Soft (suc j))) ≡ nodes (row side callee k rest d what Hard)
+      nodes (shape callee k rest (Soft (suc j)) (row_of side d what (Soft (suc j)))) ≡ nodes (shape callee k rest Hard (row_of side d what Hard))
   row_nodes callee hc k rest j e true GoodVerdict = ap suc e
   row_nodes callee hc k rest j e false GoodVerdict = ap suc e
   row_nodes callee hc k rest j e true BadVerdict = e

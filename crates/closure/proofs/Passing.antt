@@ -11,8 +11,7 @@ use Rattle.closure.specs.declared.modes.Mode.TheVariants.{Soft}
 use Rattle.closure.specs.declared.modes.Row.{Row}
 use Rattle.closure.specs.declared.modes.RulesFrom.{RulesFrom}
 use Rattle.closure.specs.declared.sides.Side.{Side}
-use Rattle.closure.specs.Rewriting.{Tree, Leave, kind, tree, rules_of}
-use Rattle.closure.specs.Rows.{row_of, shape}
+use Rattle.closure.specs.Rewriting.{Tree, Leave, kind, row_of, shape, tree, rules_of}
 use Rattle.closure.specs.Items.{items_from}
 use Rattle.closure.specs.Flat.{escape, carried, stayed, escapes}
 use Rattle.closure.specs.Stream.{cut_all, stream}

@@ -18,20 +18,18 @@ use Rattle.closure.specs.declared.modes.Escape.{Escape}
 use Rattle.closure.specs.declared.modes.Mode.{Mode}
 use Rattle.closure.specs.declared.modes.Mode.TheVariants.{Soft}
 use Rattle.closure.specs.declared.modes.Row.{Row}
-use Rattle.closure.specs.Rewriting.{Tree, Done, Decide, Leave, Block, kind, items, rules_of, tree}
-use Rattle.closure.specs.Rows.{row_of, shape}
+use Rattle.closure.specs.Rewriting.{Tree, Done, Decide, Leave, Block, kind, row_of, shape, items, rules_of, tree}
 use Rattle.closure.specs.Flat.{escape, carried, stayed, escapes, flat_of, flat_list}
 use Rattle.match_expr.specs.Primitives.{joined, listed, primitives_in}
 use Rattle.closure.specs.Sources.{IsKnown, AreKnown}
 use Rattle.closure.proofs.FlatLemmas.{run_kind, calls}
-use Rattle.closure.proofs.RowLemmas.{row_is}
 use Rattle.closure.proofs.Depths.{stands}
 
 each_append : {X : Type 0} (Q : X → Type 0) (a b : List X) → AllByRecursion Q a → AllByRecursion Q b → AllByRecursion Q (a ++ b)
 each_append Q [] b x y = y
 each_append Q (e ∷ a) b x y = (x.0, each_append Q a b x.1 y)
 
-each_contained : {X : Type 0} (Q : X → Type 0) (xs : List X) → ((x : X) → Contains xs x → Q x) → AllByRecursion Q xs
+pub each_contained : {X : Type 0} (Q : X → Type 0) (xs : List X) → ((x : X) → Contains xs x → Q x) → AllByRecursion Q xs
 each_contained Q [] f = tt
 each_contained Q (x ∷ xs) f = (f x (zero, omega arith, refl), each_contained Q xs (λ y c. f y (suc c.0, omega (arith, c.1), c.2)))
 
@@ -108,10 +106,9 @@ module _ {P : Type 0} (Q : Expr P → Type 0) (of_all : (es : List (Expr P)) →
     rules_items callee [] each mode = tt
     rules_items callee (rule ∷ rules) each mode =
         let one = each 0 rule refl in
-        subst Items (sym (row_is side callee (known_of rule) (λ (m : Mode). items side callee rules m) (doubt_in rule.lits) (kind side rule.action) mode))
-        (row_items callee (known_of rule) (λ (m : Mode). items side callee rules m) mode (row_of side (doubt_in rule.lits) (kind side rule.action) mode) one.0
+        row_items callee (known_of rule) (λ (m : Mode). items side callee rules m) mode (row_of side (doubt_in rule.lits) (kind side rule.action) mode) one.0
         (λ m. rules_items callee rules (λ i r e. each (suc i) r e) m)
-        (λ k m e. one.1 k m (calls side rule.action k (run_kind side (doubt_in rule.lits) (kind side rule.action) mode m k (sym e)).0)))
+        (λ k m e. one.1 k m (calls side rule.action k (run_kind side (doubt_in rule.lits) (kind side rule.action) mode m k (sym e)).0))
 
     tree_items : (dump : Dump P) (asked : ℕ) → ((c : ℕ) (rule : Rule P) → Reaches dump asked c → RuleOf dump c rule → Q (known_of rule)) →
         (depth c : ℕ) → Reaches dump asked c → (mode : Mode) → Items (tree side dump depth c mode)

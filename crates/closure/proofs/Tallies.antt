@@ -14,8 +14,7 @@ use Rattle.closure.specs.declared.modes.Row.{Row}
 use Rattle.closure.specs.declared.modes.RulesFrom.{RulesFrom}
 use Rattle.closure.specs.declared.sides.Side.{Side}
 use Rattle.closure.specs.declared.tally.Way.{Way}
-use Rattle.closure.specs.Rewriting.{Tree, kind, tree, rules_of}
-use Rattle.closure.specs.Rows.{row_of}
+use Rattle.closure.specs.Rewriting.{Tree, kind, row_of, tree, rules_of}
 use Rattle.closure.specs.Items.{items_from}
 use Rattle.closure.specs.Counts.{capped}
 use Rattle.closure.specs.Flat.{escape, carried, stayed, escapes}

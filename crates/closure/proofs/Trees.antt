@@ -6,7 +6,7 @@ use Rattle.fw_rule.specs.declared.rule.Rule.{Rule}
 use Rattle.fw_rule.specs.declared.rule.Dump.{Dump}
 use Rattle.closure.specs.declared.sides.Side.{Side}
 use Rattle.fw_rule.specs.Matching.{known_of, doubt_in}
-use Rattle.closure.specs.Rewriting.{Tree, Ran, Says, Leaves, Through, after_block, ran, kind, row, items, rules_of, tree}
+use Rattle.closure.specs.Rewriting.{Tree, Ran, Says, Leaves, Through, after_block, ran, kind, row_of, shape, items, rules_of, tree}
 use Rattle.closure.specs.declared.modes.Kind.{Kind}
 use Rattle.closure.specs.declared.modes.Kind.TheVariants.{GoodVerdict, BadVerdict, GoOn, GoBack, CallTo}
 use Rattle.closure.specs.declared.modes.Mode.{Mode}
@@ -71,7 +71,7 @@ module _ (side : Side) where
 
   module _ {P : Type 0} (h : P → Bool) (callee : ℕ → Mode → Tree P) (k : Expr P) (rest : Mode → Tree P) where
     -- where the known literals don't hold, the rest is tried
-    row_missed : eval_of h k ≡ false → (d : Bool) (what : Kind) (mode : Mode) → ran h (row side callee k rest d what mode) ≡ ran h (rest mode)
+    row_missed : eval_of h k ≡ false → (d : Bool) (what : Kind) (mode : Mode) → ran h (shape callee k rest mode (row_of side d what mode)) ≡ ran h (rest mode)
     row_missed e false GoodVerdict mode = rw e refl
     row_missed e true GoodVerdict mode = rw e refl
     row_missed e false BadVerdict Hard = rw e refl
@@ -91,7 +91,7 @@ module _ (side : Side) where
         (callee_is : (c : ℕ) (mode : Mode) → settle (ran h (callee c mode)) ≡ expected side mode (callee_best c))
         (rest_is : (mode : Mode) → settle (ran h (rest mode)) ≡ expected side mode rest_best) where
       row_taken : eval_of h k ≡ true → (d : Bool) (what : Kind) (mode : Mode) →
-          settle (ran h (row side callee k rest d what mode)) ≡ expected side mode (best_row callee_best rest_best d what)
+          settle (ran h (shape callee k rest mode (row_of side d what mode))) ≡ expected side mode (best_row callee_best rest_best d what)
       row_taken e false GoodVerdict mode = rw e refl
       row_taken e true GoodVerdict mode = rw e refl
       row_taken e false BadVerdict Hard = rw e refl
@@ -121,7 +121,7 @@ module _ (side : Side) where
         ((c : ℕ) (mode : Mode) → settle (ran h (callee c mode)) ≡ expected side mode (callee_best c)) →
         ((mode : Mode) → settle (ran h (rest mode)) ≡ expected side mode rest_best) →
         (d : Bool) (what : Kind) (mode : Mode) (b : Bool) → eval_of h k ≡ b →
-        settle (ran h (row side callee k rest d what mode)) ≡ expected side mode (if b then best_row callee_best rest_best d what else rest_best)
+        settle (ran h (shape callee k rest mode (row_of side d what mode))) ≡ expected side mode (if b then best_row callee_best rest_best d what else rest_best)
     by_known callee callee_best k rest rest_best callee_is rest_is d what mode true e = row_taken h callee k rest callee_best rest_best callee_is rest_is e d what mode
     by_known callee callee_best k rest rest_best callee_is rest_is d what mode false e = ap settle (row_missed h callee k rest e d what mode) ∙ rest_is mode
 

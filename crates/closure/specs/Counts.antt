@@ -7,8 +7,7 @@ use Rattle.closure.specs.declared.modes.Mode.{Mode}
 use Rattle.closure.specs.declared.modes.Mode.TheVariants.{Hard, Soft}
 use Rattle.closure.specs.declared.modes.Row.{Row}
 use Rattle.closure.specs.declared.sides.Side.{Side}
-use Rattle.closure.specs.Rewriting.{kind}
-use Rattle.closure.specs.Rows.{row_of}
+use Rattle.closure.specs.Rewriting.{kind, row_of}
 
 -- a sum stops at 2^64 - 1
 abbrev pub capped : ℕ → ℕ

@@ -11,6 +11,7 @@ use Rattle.closure.specs.declared.modes.Kind.{Kind}
 use Rattle.closure.specs.declared.modes.Kind.TheVariants.{GoodVerdict, BadVerdict, GoOn, GoBack, CallTo}
 use Rattle.closure.specs.declared.modes.Mode.{Mode}
 use Rattle.closure.specs.declared.modes.Mode.TheVariants.{Hard, Soft}
+use Rattle.closure.specs.declared.modes.Row.{Row}
 use Rattle.closure.specs.declared.sides.Side.{Side}
 
 -- items, one after another: a verdict, a way out of this block and `n` more, or a block of items
@@ -68,27 +69,40 @@ abbrev pub bad : Side → Bool
 bad Side.Upper = false
 bad Side.Lower = true
 
--- the items of one rule and of the rest: `k` its known literals, `d` whether it is doubtful. In Hard a bad verdict is a verdict; in Soft j it leaves its block and j enclosing ones more.
+-- how many enclosing blocks a bad verdict leaves beyond its own
+abbrev pub level : Mode → ℕ
+level Hard = 0
+level (Soft j) = j
+
+-- the table: what is made of a rule, doubtful or not, of this kind, in this mode. In Hard a bad verdict is a verdict; in Soft j it leaves its block and j enclosing ones more.
 -- A doubtful bad verdict never helps, so it is left out. A doubtful return may save from a bad verdict further down, so the rest is tried with bad verdicts that leave the block, and then once
 -- more behind it. A doubtful call may be passed over, so a bad verdict in it leaves its block alone. A sure call in Soft j is one block deeper.
-abbrev pub row : {P : Type 0} → Side → (ℕ → Mode → Tree P) → Expr P → (Mode → Tree P) → Bool → Kind → Mode → Tree P
-row side callee k rest d GoodVerdict mode = Decide k (good side) (rest mode)
-row side callee k rest false BadVerdict Hard = Decide k (bad side) (rest Hard)
-row side callee k rest false BadVerdict (Soft j) = Leave k j (rest (Soft j))
-row side callee k rest true BadVerdict mode = rest mode
-row side callee k rest d GoOn mode = rest mode
-row side callee k rest false GoBack mode = Leave k 0 (rest mode)
-row side callee k rest true GoBack (Soft zero) = rest (Soft zero)
-row side callee k rest true GoBack mode = Block k (rest (Soft 0)) (Leave k 0 (rest mode))
-row side callee k rest false (CallTo c) Hard = Block k (callee c Hard) (rest Hard)
-row side callee k rest false (CallTo c) (Soft j) = Block k (callee c (Soft (suc j))) (rest (Soft j))
-row side callee k rest true (CallTo c) mode = Block k (callee c (Soft 0)) (rest mode)
+abbrev pub row_of : Side → Bool → Kind → Mode → Row
+row_of side d GoodVerdict mode = Row.Decide (good side)
+row_of side false BadVerdict Hard = Row.Decide (bad side)
+row_of side false BadVerdict (Soft j) = Row.Leave j
+row_of side true BadVerdict mode = Row.Skip
+row_of side d GoOn mode = Row.Skip
+row_of side false GoBack mode = Row.Leave 0
+row_of side true GoBack (Soft zero) = Row.Skip
+row_of side true GoBack mode = Row.LeaveLater
+row_of side false (CallTo c) Hard = Row.Run c Hard
+row_of side false (CallTo c) (Soft j) = Row.Run c (Soft (suc j))
+row_of side true (CallTo c) mode = Row.Run c (Soft 0)
 
--- the items of a list of rules in a mode, where `callee` has the items of chains
+-- the items of a row and of the rest: `k` is what the rule's known literals say, `callee` has the items of chains
+abbrev pub shape : {P : Type 0} → (ℕ → Mode → Tree P) → Expr P → (Mode → Tree P) → Mode → Row → Tree P
+shape callee k rest mode Row.Skip = rest mode
+shape callee k rest mode (Row.Decide v) = Decide k v (rest mode)
+shape callee k rest mode (Row.Leave n) = Leave k n (rest mode)
+shape callee k rest mode Row.LeaveLater = Block k (rest (Soft 0)) (Leave k 0 (rest mode))
+shape callee k rest mode (Row.Run c m) = Block k (callee c m) (rest mode)
+
+-- the items of a list of rules in a mode
 abbrev pub items : {P : Type 0} → Side → (ℕ → Mode → Tree P) → List (Rule P) → Mode → Tree P
 items side callee [] mode = Done
 items side callee (rule ∷ rules) mode =
-    row side callee (known_of rule) (λ (m : Mode). items side callee rules m) (doubt_in rule.lits) (kind side rule.action) mode
+    shape callee (known_of rule) (λ (m : Mode). items side callee rules m) mode (row_of side (doubt_in rule.lits) (kind side rule.action) mode)
 
 -- a chain's rules; none where there is no chain
 abbrev pub rules_at : {P : Type 0} → Option (Chain P) → List (Rule P)

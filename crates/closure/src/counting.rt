@@ -2,8 +2,7 @@ ghost use Rattle.std.specs.Prelude.{◌≡◌, ◌+◌, ◌-◌, ◌^◌, ◌<�
 ghost use Rattle.closure.specs.Counts as spec;
 ghost use Rattle.closure.specs.Counts.{capped, rules_items};
 ghost use Rattle.closure.specs.Counted.{AreCounted};
-ghost use Rattle.closure.specs.Rows.{level};
-ghost use Rattle.closure.specs.Rewriting.{chain_tree, nodes};
+ghost use Rattle.closure.specs.Rewriting.{chain_tree, level, nodes};
 ghost use Rattle.closure.specs.Checked.{IsChecked};
 
 use crate::modes::{Mode, Row};

@@ -1,8 +1,7 @@
 ghost use Rattle.std.specs.Prelude.{◌≡◌, ◌++◌, ◌<◌, ◌+◌, ◌^◌, Bool, List, [], IfOk, OnOk, map};
 ghost use Rattle.fw_rule.specs.Walk.{InSettled, Within};
 ghost use Rattle.closure.specs.Checked.{IsChecked};
-ghost use Rattle.closure.specs.Rewriting.{chain_tree};
-ghost use Rattle.closure.specs.Rows.{level};
+ghost use Rattle.closure.specs.Rewriting.{chain_tree, level};
 ghost use Rattle.closure.specs.Flat.{escapes, flat_list};
 ghost use Rattle.closure.specs.Stream.{stream, cut_out, IsCutByParts};
 ghost use Rattle.closure.specs.Items.{items_from};

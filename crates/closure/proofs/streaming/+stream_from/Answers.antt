@@ -3,8 +3,7 @@ use Rattle.fw_rule.proofs.Turns.{chain_inside, shallower, further, calls_of}
 use Rattle.fw_rule.specs.Matching.{doubt_in}
 use Rattle.closure.specs.declared.modes.Mode.TheVariants.{Soft}
 use Rattle.closure.specs.declared.modes.Row.{Row}
-use Rattle.closure.specs.Rewriting.{kind}
-use Rattle.closure.specs.Rows.{row_of}
+use Rattle.closure.specs.Rewriting.{kind, row_of}
 use Rattle.closure.specs.Items.{items_from}
 use Rattle.closure.specs.Flat.{escapes}
 use Rattle.closure.specs.Stream.{stream}

@@ -4,8 +4,7 @@ use Rattle.fw_rule.specs.Matching.{doubt_in}
 use Rattle.closure.specs.declared.modes.Mode.TheVariants.{Soft}
 use Rattle.closure.specs.declared.modes.Row.{Row}
 use Rattle.closure.specs.Counts.{capped}
-use Rattle.closure.specs.Rewriting.{kind}
-use Rattle.closure.specs.Rows.{row_of}
+use Rattle.closure.specs.Rewriting.{kind, row_of}
 use Rattle.closure.specs.Items.{items_from}
 use Rattle.closure.proofs.FlatLemmas.{hardness_small, within_some, run_kind, calls, rule_here, rules_over, tree_called}
 use Rattle.closure.proofs.Tallies.{begun, all_tallied, tally_skipped, tally_decided, tally_left, tally_left_later, tally_ran}
