@@ -1,10 +1,17 @@
--- The length of the prefix that is a range.
-use Rattle.std.proofs.Common.{◌≡◌, ◌≤◌, ◌<◌, ⊎_elim, ℕ, zero, suc, Bool, true, false, Option, None, Some, IfSome, if◌then◌else◌, refl, sym, subst, arith}
+-- Ranges of addresses, and the length of the prefix that is one.
+use Rattle.std.proofs.Common.{◌≡◌, ◌+◌, ◌-◌, ◌^◌, ◌≤◌, ◌<◌, ⊎_elim, ℕ, zero, suc, List, [], ◌∷◌, Bool, true, false, Option, None, Some, IfSome, if◌then◌else◌, refl, sym, subst, arith}
+use Rattle.std.specs.List.{AllByRecursion}
 use Rattle.std.proofs.lemmas.Bool.{cases_lt}
 use Rattle.std.proofs.lemmas.Bool.Decides.{nat_tests}
 use Rattle.interval_set.specs.declared.set.Range.{Range}
+use Rattle.interval_set.specs.Numbers.{Ascends}
 use Rattle.interval_set.specs.Prefix.{IsPrefix, prefix_range}
-use Rattle.dump_print.specs.Addresses.{prefix_length, prefix_length_to, same_range}
+use Rattle.dump_print.specs.Addresses.{IsRangeOf, prefix_length, prefix_length_to, same_range}
+
+-- each range of a set begins with its least number, and ends below 2 ^ w
+pub ranges_of : (w from : ℕ) (rs : List Range) → Ascends (2 ^ w - 1) from rs → AllByRecursion (IsRangeOf w) rs
+ranges_of w from [] a = tt
+ranges_of w from (r ∷ rs) a = ((a.1, a.2), ranges_of w (r.hi + 2) rs a.3)
 
 same_ends : (a b : Range) → same_range a b ≡ true → (a.lo ≡ b.lo) × (a.hi ≡ b.hi)
 same_ends a b e = (grind (arith, nat_tests), grind (arith, nat_tests))
@@ -32,7 +39,8 @@ found_first w len r true s e =
     subst P same (omega arith, is_same _ _ s)
 found_first w len r false s e = absurd cc
 
-found : (w most len : ℕ) (r : Range) → prefix_length_to w r most ≡ Some len → (len ≤ most) × (prefix_range w r.lo len ≡ r)
+-- a length that is found is that of the range
+pub found : (w most len : ℕ) (r : Range) → prefix_length_to w r most ≡ Some len → (len ≤ most) × (prefix_range w r.lo len ≡ r)
 unfolding prefix_length_to
 found w zero len r e = found_first w len r (same_range (prefix_range w r.lo 0) r) refl e
 found w (suc most) len r e = found_here w most len r (prefix_length_to w r most) (found w most len r) (same_range (prefix_range w r.lo (suc most)) r) refl e

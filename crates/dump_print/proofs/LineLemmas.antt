@@ -84,10 +84,20 @@ flat_mapped g f [] = refl
 flat_mapped g f (x ∷ xs) = ap (λ l. f (g x) ++ l) (flat_mapped g f xs)
 
 -- all items are passed
+pub all_passed : {X : Type 0} (lines : List X → List (List Word)) (xs : List X) (i : ℕ) (old new : List ℕ) → length xs ≤ i →
+    new ≡ old ++ lines_text (lines (take i xs)) → new ≡ old ++ lines_text (lines xs)
+all_passed lines xs i old new l h = h ∙ ap (λ passed. old ++ lines_text (lines passed)) (take_all i xs l)
+
+-- the same where each item has lines of its own
+pub flat_passed : {X C : Type 0} (words : C → List Word) (f : X → List C) (xs : List X) (i : ℕ) (old new : List ℕ) → length xs ≤ i →
+    new ≡ old ++ lines_text (map words (flat_map f (take i xs))) → new ≡ old ++ lines_text (map words (flat_map f xs))
+flat_passed words f xs i old new l h = all_passed (λ passed. map words (flat_map f passed)) xs i old new l h
+
+-- the same for what is seen of the items
 pub lines_end : {X Y C : Type 0} (words : C → List Word) (g : X → Y) (f : Y → List C) (xs : List X) (i : ℕ) (old new : List ℕ) → length xs ≤ i →
     new ≡ old ++ lines_text (map words (flat_map (λ x. f (g x)) (take i xs))) → new ≡ old ++ lines_text (map words (flat_map f (map g xs)))
 lines_end words g f xs i old new l h =
-    h ∙ ap (λ cs. old ++ lines_text (map words cs)) (ap (flat_map (λ x. f (g x))) (take_all i xs l) ∙ sym (flat_mapped g f xs))
+    flat_passed words (λ x. f (g x)) xs i old new l h ∙ ap (λ cs. old ++ lines_text (map words cs)) (sym (flat_mapped g f xs))
 
 -- the same for lists of lines
 pub list_more : {X : Type 0} (f : X → List (List Word)) (xs : List X) (i : ℕ) (d : X) (old mid new : List ℕ) → i < length xs →
@@ -98,7 +108,7 @@ list_more f xs i d old mid new l h k =
 pub all_lines_end : {X Y : Type 0} (f : Y → List (List Word)) (g : X → Y) (xs : List X) (i : ℕ) (old new : List ℕ) → length xs ≤ i →
     new ≡ old ++ lines_text (flat_map (λ x. f (g x)) (take i xs)) → new ≡ old ++ lines_text (flat_map f (map g xs))
 all_lines_end f g xs i old new l h =
-    h ∙ ap (λ ls. old ++ lines_text ls) (ap (flat_map (λ x. f (g x))) (take_all i xs l) ∙ sym (flat_mapped g f xs))
+    all_passed (flat_map (λ x. f (g x))) xs i old new l h ∙ ap (λ ls. old ++ lines_text ls) (sym (flat_mapped g f xs))
 
 -- a range of a set
 pub range_at : (last from : ℕ) (rs : List Range) (i : ℕ) (d : Range) → Ascends last from rs → i < length rs →

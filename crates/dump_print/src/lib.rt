@@ -1,4 +1,4 @@
-//! Prints a list of simple rules as a table that iptables-restore reads.
+//! Prints a list of simple rules as a table in the form of iptables-save.
 #![tactic(auto)]
 
 mod addresses;

@@ -4,7 +4,7 @@ ghost use Rattle.interval_set.specs.Numbers.{IsSet, IsWidth};
 ghost use Rattle.dump_grammar.specs.Lines.{Text, bare};
 ghost use Rattle.dump_print.specs.Addresses.{IsRangeOf};
 ghost use Rattle.dump_print.specs.CubeLines.{base_option_words, choices_of, module_option_words, part_words};
-ghost use Rattle.dump_print.specs.Parts.{choices_in, flags_words, has_words, module_words, option_words, own_module_words, own_words, rule_words, single_words, state_words, with_destinations, with_dports, with_flags, with_sports};
+ghost use Rattle.dump_print.specs.Parts.{between, choices_in, flags_words, has_words, module_words, option_words, own_module_words, own_words, rule_words, single_words, state_words, with_sports};
 ghost use Rattle.dump_print.specs.Flags.{flags_text};
 ghost use Rattle.dump_print.specs.Ports.{ports_of};
 ghost use Rattle.dump_print.specs.Spelling.{line_text, lines_text, spaced};
@@ -231,117 +231,40 @@ fn append_line<F: Family<W>, const W: u32>(
     append_end(frame.target, out)
 }
 
-// Appends the line once for each cube of flags.
-fn append_each_flags<F: Family<W>, const W: u32>(
-    frame: &Frame<W>,
-    axes: &LineAxes,
-    line: Line,
-    out: &mut Vec<u8>,
-) -> Result<(), AllocError>
-    requires width { IsWidth W }
-    requires frame { IsFrame frame.now }
-    requires source { IsRangeOf W line.source }
-    requires destination { IsRangeOf W line.destination }
-    ensures { OnOk result (out.new.items ≡ out.old.items
-        ++ lines_text (map (frame_words F.text_of W frame.now) (with_flags (choice_of line.entry) (axes_in axes.now).flags))) }
-{
-    for flags in axes.flags {
-        append_line::<F, W>(
-            frame,
-            Line {
-                flags: *flags,
-                ..line
-            },
-            out,
-        )?;
-    }
-    Ok(())
-}
-
-// Appends the line for each part of the destination ports.
-fn append_each_dports<F: Family<W>, const W: u32>(
-    frame: &Frame<W>,
-    axes: &LineAxes,
-    line: Line,
-    out: &mut Vec<u8>,
-) -> Result<(), AllocError>
-    requires width { IsWidth W }
-    requires frame { IsFrame frame.now }
-    requires source { IsRangeOf W line.source }
-    requires destination { IsRangeOf W line.destination }
-    ensures { OnOk result (out.new.items ≡ out.old.items
-        ++ lines_text (map (frame_words F.text_of W frame.now) (with_dports (choice_of line.entry) (axes_in axes.now)))) }
-{
-    for ports in axes.dports {
-        append_each_flags::<F, W>(
-            frame,
-            axes,
-            Line {
-                dports: *ports,
-                ..line
-            },
-            out,
-        )?;
-    }
-    Ok(())
-}
-
-// Appends the line for each part of the source ports.
-fn append_each_sports<F: Family<W>, const W: u32>(
-    frame: &Frame<W>,
-    axes: &LineAxes,
-    line: Line,
-    out: &mut Vec<u8>,
-) -> Result<(), AllocError>
-    requires width { IsWidth W }
-    requires frame { IsFrame frame.now }
-    requires source { IsRangeOf W line.source }
-    requires destination { IsRangeOf W line.destination }
-    ensures { OnOk result (out.new.items ≡ out.old.items
-        ++ lines_text (map (frame_words F.text_of W frame.now) (with_sports (choice_of line.entry) (axes_in axes.now)))) }
-{
-    for ports in axes.sports {
-        append_each_dports::<F, W>(
-            frame,
-            axes,
-            Line {
-                sports: *ports,
-                ..line
-            },
-            out,
-        )?;
-    }
-    Ok(())
-}
-
-// Appends the lines from a source to each destination.
-fn append_each_destination<F: Family<W>, const W: u32>(
+// Appends the lines of these addresses: one for each part of both sets of ports and each cube of flags.
+fn append_between<F: Family<W>, const W: u32>(
     frame: &Frame<W>,
     axes: &LineAxes,
     source: Range,
+    destination: Range,
     out: &mut Vec<u8>,
 ) -> Result<(), AllocError>
+    requires width { IsWidth W }
     requires frame { IsFrame frame.now }
     requires source { IsRangeOf W source }
-    requires destinations { IsSet W axes.now.destinations.now }
+    requires destination { IsRangeOf W destination }
     ensures { OnOk result (out.new.items ≡ out.old.items
-        ++ lines_text (map (frame_words F.text_of W frame.now) (with_destinations source (axes_in axes.now)))) }
+        ++ lines_text (map (frame_words F.text_of W frame.now) (with_sports (between source destination) (axes_in axes.now)))) }
 {
-    for destination in axes.destinations {
-        let line = Line {
-            source,
-            destination: *destination,
-            sports: LinePorts::Every,
-            dports: LinePorts::Every,
-            flags: FlagCube { mask: 0, comp: 0 },
-        };
-        append_each_sports::<F, W>(frame, axes, line, out)?;
+    for sports in axes.sports {
+        for dports in axes.dports {
+            for flags in axes.flags {
+                let line = Line {
+                    source,
+                    destination,
+                    sports: *sports,
+                    dports: *dports,
+                    flags: *flags,
+                };
+                append_line::<F, W>(frame, line, out)?;
+            }
+        }
     }
     Ok(())
 }
 
-// Appends the lines from each source.
-fn append_each_source<F: Family<W>, const W: u32>(
+// Appends the lines from each source to each destination.
+fn append_each<F: Family<W>, const W: u32>(
     frame: &Frame<W>,
     axes: &LineAxes,
     out: &mut Vec<u8>,
@@ -353,7 +276,9 @@ fn append_each_source<F: Family<W>, const W: u32>(
         ++ lines_text (map (frame_words F.text_of W frame.now) (choices_in (axes_in axes.now)))) }
 {
     for source in axes.sources {
-        append_each_destination::<F, W>(frame, axes, *source, out)?;
+        for destination in axes.destinations {
+            append_between::<F, W>(frame, axes, *source, *destination, out)?;
+        }
     }
     Ok(())
 }
@@ -386,5 +311,5 @@ pub(crate) fn append_cube<F: Family<W>, const W: u32>(
         protocols,
         target,
     };
-    append_each_source::<F, W>(&frame, &axes, out)
+    append_each::<F, W>(&frame, &axes, out)
 }

@@ -161,7 +161,7 @@ fn append_all<F: Family<W>, const W: u32>(
     out.extend_from_slice(b"COMMIT\n")
 }
 
-/// The filter of a chain with this policy and these rules, as iptables-restore reads it: the table opens, the chain is
+/// The filter of a chain with this policy and these rules, in the form of iptables-save: the table opens, the chain is
 /// declared, then each helper chain, and the rules follow. A rule has a line for each combination of its source and
 /// destination ranges, lists of ports and cubes of flags; what no line can say stands in a helper chain of its own.
 ///

@@ -166,7 +166,7 @@ pub(crate) fn append_flags(flags: u8, out: &mut Vec<u8>) -> Result<(), AllocErro
 }
 
 /// Appends the names of flags of tcp that are set, in the order FIN, SYN, RST, PSH, ACK, URG with commas between them, and NONE
-/// for no flag. Without memory `out` is as before.
+/// for 0. Without memory `out` is as before.
 pub fn flags_text(alloc: Global, flags: u8, out: &mut Vec<u8>) -> Result<(), AllocError>
     ensures ok { OnOk result (out.new.items ≡ out.old.items ++ flags_text flags) }
     ensures err { OnErr result (out.new.items ≡ out.old.items) }

@@ -5,12 +5,8 @@ use Rattle.std.proofs.lemmas.List.{take_rest}
 use Rattle.interval_set.specs.declared.set.Range.{Range}
 use Rattle.interval_set.specs.Numbers.{Ascends}
 use Rattle.dump_print.specs.Addresses.{IsRangeOf}
+use Rattle.dump_print.proofs.AddressLemmas.{ranges_of}
 use Rattle.fw_text.specs.Ranges.{range_text, ranges_text}
-
--- each range of a set begins with its least number, and ends below 2 ^ w
-ranges_of : (w from : ℕ) (rs : List Range) → Ascends (2 ^ w - 1) from rs → AllByRecursion (IsRangeOf w) rs
-ranges_of w from [] a = tt
-ranges_of w from (r ∷ rs) a = ((a.1, a.2), ranges_of w (r.hi + 2) rs a.3)
 
 module _ (text_of : ℕ → List ℕ) (w : ℕ) where
   -- what is still to be appended, and that these are ranges

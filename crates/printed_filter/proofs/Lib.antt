@@ -9,7 +9,6 @@ pub mod NameFacts
 pub mod PortFacts
 pub mod ProtocolFacts
 pub mod RuleWalk
-pub mod Spelled
 pub mod StateFacts
 pub mod Truths
 pub mod WalkOver

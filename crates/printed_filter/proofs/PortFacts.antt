@@ -6,6 +6,7 @@ use Rattle.std.proofs.lemmas.Bool.Decides.{nat_tests}
 use Rattle.interval_set.specs.declared.set.Range.{Range}
 use Rattle.interval_set.specs.Numbers.{has, is_within}
 use Rattle.interval_set.specs.Spelling.{ranges_where}
+use Rattle.interval_set.proofs.Spelling.{where_has}
 use Rattle.match_expr.specs.Meaning.{eval_of}
 use Rattle.match_expr.specs.declared.expr.Expr.{Expr}
 use Rattle.primitives.specs.declared.prim.Packet.{Packet}
@@ -24,7 +25,6 @@ use Rattle.dump_print.specs.Protocols.{protocols_of}
 use Rattle.printed_filter.specs.Literals.{listed_literals, number_of, single_literals}
 use Rattle.printed_filter.proofs.AddressFacts.{everything_has}
 use Rattle.printed_filter.proofs.Facts.{eval-Prim, facts}
-use Rattle.printed_filter.proofs.Spelled.{where_has}
 use Rattle.printed_filter.proofs.Truths.{and_true, any_map, any_same, or_assoc, or_false}
 
 -- literals that a line has where its protocols are one with a module of its own

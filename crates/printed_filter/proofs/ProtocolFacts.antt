@@ -7,6 +7,7 @@ use Rattle.std.proofs.lemmas.Bool.Decides.{nat_tests}
 use Rattle.interval_set.specs.declared.set.Range.{Range}
 use Rattle.interval_set.specs.Numbers.{has, is_within}
 use Rattle.interval_set.specs.Spelling.{set_not}
+use Rattle.interval_set.proofs.Spelling.{not_has}
 use Rattle.primitives.specs.declared.prim.Packet.{Packet}
 use Rattle.primitives.specs.declared.prim.Prim_.{Prim_}
 use Rattle.primitives.specs.Holds.{holds_of}
@@ -19,7 +20,6 @@ use Rattle.dump_print.specs.Protocols.{is_plain_protocols, lacking, numbers_from
 use Rattle.printed_filter.specs.Literals.{protocol_literals}
 use Rattle.printed_filter.proofs.AddressFacts.{everything_has, in_ranges}
 use Rattle.printed_filter.proofs.Facts.{facts, one_denied, one_fact}
-use Rattle.printed_filter.proofs.Spelled.{not_has}
 use Rattle.printed_filter.proofs.Truths.{and_true, any_flat, any_same}
 
 -- what the form of a set of protocols says of a number

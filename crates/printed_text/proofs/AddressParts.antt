@@ -1,6 +1,5 @@
 -- The parts of a line that name addresses.
-use Rattle.std.proofs.Common.{◌≡◌, ◌++◌, ◌∷◌, ◌-◌, ◌*◌, ◌/◌, ◌%◌, ◌^◌, ◌<◌, ◌≤◌, [], ℕ, zero, suc, List, Bool, true, false, Option, Some, None, inl, inr, refl, sym, ap, subst, arith, codes, decimal, append_assoc, if◌then◌else◌, pow_pos, lit≤, length}
-use Rattle.std.proofs.lemmas.Bool.Decides.{nat_tests}
+use Rattle.std.proofs.Common.{◌≡◌, ◌++◌, ◌∷◌, ◌-◌, ◌*◌, ◌/◌, ◌%◌, ◌^◌, ◌<◌, ◌≤◌, [], ℕ, List, Bool, true, false, Option, Some, None, inl, inr, refl, sym, ap, arith, codes, decimal, append_assoc, if◌then◌else◌, pow_pos, lit≤, length}
 use Rattle.std.proofs.lemmas.Nat.{div-add-mod'}
 use Rattle.interval_set.specs.declared.set.Range.{Range}
 use Rattle.interval_set.specs.Numbers.{IsWidth}
@@ -15,41 +14,18 @@ use Rattle.dump_grammar.specs.ChainLines.{is_among}
 use Rattle.dump_grammar.specs.Groups.{Group, IsOptionName, arity_of, base_options}
 use Rattle.dump_grammar.specs.Lines.{Text, bare}
 use Rattle.dump_grammar.specs.Literals.{IsBaseLiteral, IsNetLiteral}
-use Rattle.dump_print.specs.Addresses.{IsRangeOf, is_everything, net_words, net_words_of, prefix_length, prefix_length_to, range_words, range_words_of, same_range}
+use Rattle.dump_print.specs.Addresses.{IsRangeOf, is_everything, net_words, net_words_of, prefix_length, range_words, range_words_of}
 use Rattle.dump_print.specs.Parts.{both_words, iprange_words}
 use Rattle.printed_filter.specs.Literals.{net_literals, other_literal, prefix_literal, range_literals, yes}
+use Rattle.dump_print.proofs.AddressLemmas.{found}
 use Rattle.printed_text.proofs.WordLemmas.{CanStand, IsClean, clean_address, clean_decimal, clean_from, clean_is_written, code_is_written, some_joined}
-use Rattle.printed_text.proofs.PartLemmas.{IsInner, IsPart, MaybePart, base_part, join_inner, module_part, no_inner, no_part, option_part}
+use Rattle.printed_text.proofs.PartLemmas.{arity_is, IsInner, IsPart, MaybePart, base_part, join_inner, module_part, no_inner, no_part, option_part}
 use Rattle.printed_text.proofs.ListLemmas.{all_joined}
 
 -- ---- the length of a prefix
-same_ends : (a b : Range) → same_range a b ≡ true → (a.lo ≡ b.lo) × (a.hi ≡ b.hi)
-same_ends a b e = (grind (arith, nat_tests), grind (arith, nat_tests))
-
-is_same : (a b : Range) → same_range a b ≡ true → a ≡ b
-is_same a b e = λ i. record { lo = (same_ends a b e).0 i; hi = (same_ends a b e).1 i }
-
 -- the length is one that a prefix of the range has
 abbrev IsLengthOf : ℕ → ℕ → Range → ℕ → Type 0
 IsLengthOf w most r len = (len ≤ most) × (prefix_range w r.lo len ≡ r)
-
-found_here : (w most len : ℕ) (r : Range) (o : Option ℕ) → (o ≡ Some len → IsLengthOf w most r len) →
-    (b : Bool) → same_range (prefix_range w r.lo (suc most)) r ≡ b → (if b then Some (suc most) else o) ≡ Some len → IsLengthOf w (suc most) r len
-found_here w most len r o below true s e =
-    let same : suc most ≡ len = cc in
-    subst (IsLengthOf w (suc most) r) same (omega arith, is_same _ _ s)
-found_here w most len r o below false s e = let h = below e in (omega (arith, h.0), h.1)
-
-found_first : (w len : ℕ) (r : Range) (b : Bool) → same_range (prefix_range w r.lo 0) r ≡ b → if◌then◌else◌ {A = Option ℕ} b (Some 0) None ≡ Some len → IsLengthOf w 0 r len
-found_first w len r true s e =
-    let same : 0 ≡ len = cc in
-    subst (IsLengthOf w 0 r) same (omega arith, is_same _ _ s)
-found_first w len r false s e = absurd cc
-
-found : (w most len : ℕ) (r : Range) → prefix_length_to w r most ≡ Some len → IsLengthOf w most r len
-unfolding prefix_length_to
-found w zero len r e = found_first w len r (same_range (prefix_range w r.lo 0) r) refl e
-found w (suc most) len r e = found_here w most len r (prefix_length_to w r most) (found w most len r) (same_range (prefix_range w r.lo (suc most)) r) refl e
 
 -- ---- texts
 pub width_small : (W : ℕ) → IsWidth W → W ≤ 128
@@ -63,22 +39,6 @@ cleared x k e = omega (arith, div-add-mod' x k, e)
 
 pub below_top : (W n : ℕ) → n ≤ 2 ^ W - 1 → n < 2 ^ W
 below_top W n l = let some : 0 < 2 ^ W = pow_pos W in omega (arith, some, l)
-
-source_arity : arity_of [] (codes "-s") ≡ Some 1
-unfolding arity_of
-source_arity = refl
-
-destination_arity : arity_of [] (codes "-d") ≡ Some 1
-unfolding arity_of
-destination_arity = refl
-
-source_range_arity : arity_of (codes "iprange") (codes "--src-range") ≡ Some 1
-unfolding arity_of
-source_range_arity = refl
-
-destination_range_arity : arity_of (codes "iprange") (codes "--dst-range") ≡ Some 1
-unfolding arity_of
-destination_range_arity = refl
 
 module _ {W : ℕ} (Reads : Text → ℕ → Type 0) (Knows : List Group → Type 0) (text_of : ℕ → Text) (width : IsWidth W)
     (round : (value : ℕ) → value < 2 ^ W → Reads (text_of value) value)
@@ -142,10 +102,10 @@ module _ {W : ℕ} (Reads : Text → ℕ → Type 0) (Knows : List Group → Typ
       }
 
   pub source_part : (r : Range) → IsRangeOf W r → MaybePart {W = W} Reads Knows (codes "-s") (net_words text_of W (codes "-s") r) (net_literals Prim_.Src r)
-  source_part r is = net_part_of (codes "-s") Prim_.Src r refl source_arity source_says (code_is_written (codes "-s") refl) is (is_everything W r) (prefix_length W r) refl
+  source_part r is = net_part_of (codes "-s") Prim_.Src r refl (arity_is [] (codes "-s") 1 refl) source_says (code_is_written (codes "-s") refl) is (is_everything W r) (prefix_length W r) refl
 
   pub destination_part : (r : Range) → IsRangeOf W r → MaybePart {W = W} Reads Knows (codes "-d") (net_words text_of W (codes "-d") r) (net_literals Prim_.Dst r)
-  destination_part r is = net_part_of (codes "-d") Prim_.Dst r refl destination_arity destination_says (code_is_written (codes "-d") refl) is (is_everything W r) (prefix_length W r) refl
+  destination_part r is = net_part_of (codes "-d") Prim_.Dst r refl (arity_is [] (codes "-d") 1 refl) destination_says (code_is_written (codes "-d") refl) is (is_everything W r) (prefix_length W r) refl
 
   -- ---- ranges that are no prefix
   abbrev range_text : Range → Text
@@ -188,5 +148,5 @@ module _ {W : ℕ} (Reads : Text → ℕ → Type 0) (Knows : List Group → Typ
       refl (code_is_written (codes "iprange") refl)
       (join_inner Reads Knows (codes "iprange") (range_words text_of W (codes "--src-range") source) (range_words text_of W (codes "--dst-range") destination)
       (range_literals Prim_.Src source) (range_literals Prim_.Dst destination)
-      (range_part_of (codes "--src-range") Prim_.Src source source_range_arity (refl, lit≤ tt) source_range_says (code_is_written (codes "--src-range") refl) is (prefix_length W source))
-      (range_part_of (codes "--dst-range") Prim_.Dst destination destination_range_arity (refl, lit≤ tt) destination_range_says (code_is_written (codes "--dst-range") refl) same (prefix_length W destination)))
+      (range_part_of (codes "--src-range") Prim_.Src source (arity_is (codes "iprange") (codes "--src-range") 1 refl) (refl, lit≤ tt) source_range_says (code_is_written (codes "--src-range") refl) is (prefix_length W source))
+      (range_part_of (codes "--dst-range") Prim_.Dst destination (arity_is (codes "iprange") (codes "--dst-range") 1 refl) (refl, lit≤ tt) destination_range_says (code_is_written (codes "--dst-range") refl) same (prefix_length W destination)))

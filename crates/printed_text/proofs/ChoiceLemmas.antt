@@ -4,7 +4,7 @@ use Rattle.std.specs.List.{AllByRecursion}
 use Rattle.std.proofs.lemmas.List.Elements.{All-contains, All-from_recursion}
 use Rattle.std.proofs.lemmas.Bool.{eqb-true}
 use Rattle.interval_set.specs.declared.set.Range.{Range}
-use Rattle.interval_set.specs.Numbers.{Ascends, IsSet}
+use Rattle.interval_set.specs.Numbers.{IsSet}
 use Rattle.primitives.specs.Holds.{has_bit}
 use Rattle.primitives.specs.Ports.{HasPorts}
 use Rattle.box_norm.specs.declared.cube.Cube.{Cube}
@@ -21,6 +21,7 @@ use Rattle.dump_print.specs.PortCover.{CoverPorts}
 use Rattle.dump_print.specs.Ports.{Ports, chunks, has_port_module, port_choices, port_list, weight_of}
 use Rattle.dump_print.specs.Protocols.{protocols_of}
 use Rattle.dump_print.specs.Sets.{HasSets}
+use Rattle.dump_print.proofs.AddressLemmas.{ranges_of}
 use Rattle.printed_text.proofs.ProtocolParts.{single_only}
 use Rattle.printed_text.proofs.PortParts.{HasOnePorts, IsFlagCube, IsReadable}
 use Rattle.printed_text.proofs.ListLemmas.{all_joined, flat_since, map_since}
@@ -67,11 +68,6 @@ module _ (W : ℕ) (protocols : Protocols) (axes : Axes) (are : AreSayable W pro
 
   all_sayable : AllByRecursion (IsSayable W protocols) (choices_in axes)
   all_sayable = flat_since (IsRangeOf W) (IsSayable W protocols) (λ source. with_destinations source axes) destinations_sayable axes.sources are.sources
-
--- ---- addresses
-ranges_of : (w from : ℕ) (rs : List Range) → Ascends (2 ^ w - 1) from rs → AllByRecursion (IsRangeOf w) rs
-ranges_of w from [] a = tt
-ranges_of w from (r ∷ rs) a = ((a.1, a.2), ranges_of w (r.hi + 2) rs a.3)
 
 -- ---- ports
 read_port : (r : Range) → IsRangeOf 16 r → (b : Bool) → (r.lo == r.hi) ≡ b → IsPortRange (if b then decimal r.lo else decimal r.lo ++ 58 ∷ decimal r.hi) r

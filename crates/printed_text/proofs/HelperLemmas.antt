@@ -49,39 +49,30 @@ module _ {W : ℕ} where
   abbrev pub helper_texts : Text → SimpleRule W → List (RuleText W)
   helper_texts chain rule = return_texts chain rule.cube ++ verdict_line chain rule.accept ∷ []
 
-  words_joined : (a b : List (RuleText W)) → words_of (a ++ b) ≡ words_of a ++ words_of b
-  words_joined a b = map-append (λ (line : RuleText W). line.words) a b
-
-  said_joined : (a b : List (RuleText W)) → said_of (a ++ b) ≡ said_of a ++ said_of b
-  said_joined a b = map-append (λ (line : RuleText W). line.said) a b
+  -- a view of each line of a helper chain
+  lines_seen : {X : Type 0} (see : RuleText W → X) (chain : Text) (rule : SimpleRule W) → map see (helper_texts chain rule)
+      ≡ (map (λ pattern. see (in_text chain pattern)) (returned_patterns rule.cube.in_name)
+      ++ (map (λ pattern. see (out_text chain pattern)) (returned_patterns rule.cube.out_name)
+      ++ map (λ n. see (protocol_line chain n)) (returned_protocols rule.cube.proto)))
+      ++ see (verdict_line chain rule.accept) ∷ []
+  lines_seen {X} see chain rule =
+      let a = map (in_text chain) (returned_patterns rule.cube.in_name) in
+      let b = map (out_text chain) (returned_patterns rule.cube.out_name) in
+      let c = map (protocol_line chain) (returned_protocols rule.cube.proto) in
+      let last = verdict_line chain rule.accept ∷ [] in
+      map-append see (a ++ (b ++ c)) last
+      ∙ ap (λ (xs : List X). xs ++ map see last)
+      (map-append see a (b ++ c)
+      ∙ ap₂ (λ (xs ys : List X). xs ++ ys) (map_map see (in_text chain) (returned_patterns rule.cube.in_name))
+      (map-append see b c
+      ∙ ap₂ (λ (xs ys : List X). xs ++ ys) (map_map see (out_text chain) (returned_patterns rule.cube.out_name))
+      (map_map see (protocol_line chain) (returned_protocols rule.cube.proto))))
 
   helper_words : (chain : Text) (rule : SimpleRule W) → words_of (helper_texts chain rule) ≡ helper_lines chain rule
-  helper_words chain rule =
-      let a = map (in_text chain) (returned_patterns rule.cube.in_name) in
-      let b = map (out_text chain) (returned_patterns rule.cube.out_name) in
-      let c = map (protocol_line chain) (returned_protocols rule.cube.proto) in
-      let last = verdict_line chain rule.accept ∷ [] in
-      words_joined (a ++ (b ++ c)) last
-      ∙ ap (λ (l : List (List Word)). l ++ words_of last)
-      (words_joined a (b ++ c)
-      ∙ ap₂ (λ (x y : List (List Word)). x ++ y) (map_map (λ (line : RuleText W). line.words) (in_text chain) (returned_patterns rule.cube.in_name))
-      (words_joined b c
-      ∙ ap₂ (λ (x y : List (List Word)). x ++ y) (map_map (λ (line : RuleText W). line.words) (out_text chain) (returned_patterns rule.cube.out_name))
-      (map_map (λ (line : RuleText W). line.words) (protocol_line chain) (returned_protocols rule.cube.proto))))
+  helper_words chain rule = lines_seen (λ (line : RuleText W). line.words) chain rule
 
   helper_said : (chain : Text) (rule : SimpleRule W) → said_of (helper_texts chain rule) ≡ helper_rules rule
-  helper_said chain rule =
-      let a = map (in_text chain) (returned_patterns rule.cube.in_name) in
-      let b = map (out_text chain) (returned_patterns rule.cube.out_name) in
-      let c = map (protocol_line chain) (returned_protocols rule.cube.proto) in
-      let last = verdict_line chain rule.accept ∷ [] in
-      said_joined (a ++ (b ++ c)) last
-      ∙ ap (λ (l : List (Said W)). l ++ said_of last)
-      (said_joined a (b ++ c)
-      ∙ ap₂ (λ (x y : List (Said W)). x ++ y) (map_map (λ (line : RuleText W). line.said) (in_text chain) (returned_patterns rule.cube.in_name))
-      (said_joined b c
-      ∙ ap₂ (λ (x y : List (Said W)). x ++ y) (map_map (λ (line : RuleText W). line.said) (out_text chain) (returned_patterns rule.cube.out_name))
-      (map_map (λ (line : RuleText W). line.said) (protocol_line chain) (returned_protocols rule.cube.proto))))
+  helper_said chain rule = lines_seen (λ (line : RuleText W). line.said) chain rule
 
   -- ---- the helper chains
   abbrev pub helper_block : SimpleRule W → Option ℕ → List (Block W)

@@ -16,15 +16,7 @@ use Rattle.dump_print.specs.Parts.{name_words, negated_words, option_words}
 use Rattle.printed_filter.specs.Literals.{name_literals, no, yes}
 use Rattle.printed_text.specs.Names.{ArePrintableNames}
 use Rattle.printed_text.proofs.WordLemmas.{CanStand, code_is_written, name_is_written}
-use Rattle.printed_text.proofs.PartLemmas.{IsPart, MaybePart, base_part, no_part}
-
-pub input_arity : arity_of [] (codes "-i") ≡ Some 1
-unfolding arity_of
-input_arity = refl
-
-pub output_arity : arity_of [] (codes "-o") ≡ Some 1
-unfolding arity_of
-output_arity = refl
+use Rattle.printed_text.proofs.PartLemmas.{arity_is, IsPart, MaybePart, base_part, no_part}
 
 pattern_is : (pattern : Pattern) → IsPrintable pattern → IsPattern (pattern_name pattern) pattern
 pattern_is (Pattern.Exact name) is = (refl, is.2)
@@ -82,13 +74,13 @@ module _ {W : ℕ} (Reads : Text → ℕ → Type 0) (Knows : List Group → Typ
     names_part names are = names_part_of names.base names.excluded are.base are.excluded (is_every_name names.base) (is_plain_names names) refl
 
   pub inputs_part : (names : NameSet) → ArePrintableNames names → MaybePart {W = W} Reads Knows (codes "-i") (name_words (codes "-i") names) (name_literals Prim_.InName names)
-  inputs_part = names_part (codes "-i") Prim_.InName refl input_arity input_says (code_is_written (codes "-i") refl)
+  inputs_part = names_part (codes "-i") Prim_.InName refl (arity_is [] (codes "-i") 1 refl) input_says (code_is_written (codes "-i") refl)
 
   pub outputs_part : (names : NameSet) → ArePrintableNames names → MaybePart {W = W} Reads Knows (codes "-o") (name_words (codes "-o") names) (name_literals Prim_.OutName names)
-  outputs_part = names_part (codes "-o") Prim_.OutName refl output_arity output_says (code_is_written (codes "-o") refl)
+  outputs_part = names_part (codes "-o") Prim_.OutName refl (arity_is [] (codes "-o") 1 refl) output_says (code_is_written (codes "-o") refl)
 
   pub input_part : (pattern : Pattern) → IsPrintable pattern → IsPart {W = W} Reads Knows (codes "-i" ∷ []) (option_words (codes "-i") (name_word pattern)) (yes (Prim_.InName pattern) ∷ [])
-  input_part = base_name (codes "-i") Prim_.InName refl input_arity input_says (code_is_written (codes "-i") refl)
+  input_part = base_name (codes "-i") Prim_.InName refl (arity_is [] (codes "-i") 1 refl) input_says (code_is_written (codes "-i") refl)
 
   pub output_part : (pattern : Pattern) → IsPrintable pattern → IsPart {W = W} Reads Knows (codes "-o" ∷ []) (option_words (codes "-o") (name_word pattern)) (yes (Prim_.OutName pattern) ∷ [])
-  output_part = base_name (codes "-o") Prim_.OutName refl output_arity output_says (code_is_written (codes "-o") refl)
+  output_part = base_name (codes "-o") Prim_.OutName refl (arity_is [] (codes "-o") 1 refl) output_says (code_is_written (codes "-o") refl)

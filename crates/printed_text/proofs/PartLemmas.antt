@@ -4,9 +4,10 @@ use Rattle.std.specs.List.{AllByRecursion}
 use Rattle.match_expr.specs.declared.expr.Expr.{Expr}
 use Rattle.primitives.specs.declared.prim.Prim_.{Prim_}
 use Rattle.fw_rule.specs.declared.rule.Lit.{Lit}
+use Rattle.opt_table.specs.Options.{known_options}
 use Rattle.dump_grammar.specs.Arguments.{Says}
 use Rattle.dump_grammar.specs.ChainLines.{is_among}
-use Rattle.dump_grammar.specs.Groups.{AreGroups, Base, Group, IsOptionName, Module, ModuleOption, Takes, arity_in, arity_of, base_of, base_options, is_known_module, mark_words}
+use Rattle.dump_grammar.specs.Groups.{AreGroups, Base, Group, IsOptionName, Module, ModuleOption, Takes, arity_in, arity_in_rows, arity_of, base_of, base_options, is_known_module, mark_words}
 use Rattle.dump_grammar.specs.Lines.{Text, Word, bare, texts}
 use Rattle.dump_grammar.specs.Literals.{AreLiterals, IsBaseLiteral, modules_literals, option_follows, text_of}
 use Rattle.dump_print.specs.Parts.{has_words, module_words}
@@ -39,6 +40,11 @@ marked false option word rest = refl
 pub mark_written : (negated : Bool) (words : List Word) → AllByRecursion CanStand words → AllByRecursion CanStand (mark_words negated ++ words)
 mark_written true words p = (mark_is_written, p)
 mark_written false words p = p
+
+-- how many arguments an option takes, by its row in the table
+pub arity_is : (name option : Text) (count : ℕ) → arity_in_rows known_options name option ≡ Some count → arity_of name option ≡ Some count
+unfolding arity_of
+arity_is name option count row = row
 
 taken_there : (name option : Text) (taken rest : List Word) → arity_of name option ≡ Some (length taken) → Takes (arity_in (Some name) option) taken rest
 taken_there name option taken rest arity = subst (λ (count : Option ℕ). Takes count taken rest) (sym arity) refl

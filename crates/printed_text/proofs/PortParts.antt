@@ -21,7 +21,7 @@ use Rattle.dump_print.specs.States.{states_text}
 use Rattle.printed_filter.specs.Literals.{flags_literals, listed_literals, number_of, own_literals, own_module_literals, single_literals, state_literals, yes}
 use Rattle.printed_text.proofs.WordLemmas.{CanStand, IsClean, clean_decimal, clean_is_written, code_is_written, some_decimal, some_joined}
 use Rattle.printed_text.proofs.WordListLemmas.{flags_spelled, flags_written, states_listed, states_written}
-use Rattle.printed_text.proofs.PartLemmas.{IsInner, IsPart, join_inner, module_part, no_inner, no_part, option_part}
+use Rattle.printed_text.proofs.PartLemmas.{arity_is, IsInner, IsPart, join_inner, module_part, no_inner, no_part, option_part}
 use Rattle.printed_text.proofs.ProtocolParts.{Knowing, protocol_spells}
 use Rattle.printed_text.proofs.ListLemmas.{all_joined}
 
@@ -96,38 +96,6 @@ ports_small n (inr (inr (inl e))) = omega (arith, e)
 ports_small n (inr (inr (inr (inl e)))) = omega (arith, e)
 ports_small n (inr (inr (inr (inr e)))) = omega (arith, e)
 
-tcp_source_arity : arity_of (codes "tcp") (codes "--sport") ≡ Some 1
-unfolding arity_of
-tcp_source_arity = refl
-
-udp_source_arity : arity_of (codes "udp") (codes "--sport") ≡ Some 1
-unfolding arity_of
-udp_source_arity = refl
-
-tcp_destination_arity : arity_of (codes "tcp") (codes "--dport") ≡ Some 1
-unfolding arity_of
-tcp_destination_arity = refl
-
-udp_destination_arity : arity_of (codes "udp") (codes "--dport") ≡ Some 1
-unfolding arity_of
-udp_destination_arity = refl
-
-flags_arity : arity_of (codes "tcp") (codes "--tcp-flags") ≡ Some 2
-unfolding arity_of
-flags_arity = refl
-
-sources_arity : arity_of (codes "multiport") (codes "--sports") ≡ Some 1
-unfolding arity_of
-sources_arity = refl
-
-destinations_arity : arity_of (codes "multiport") (codes "--dports") ≡ Some 1
-unfolding arity_of
-destinations_arity = refl
-
-state_arity : arity_of (codes "conntrack") (codes "--ctstate") ≡ Some 1
-unfolding arity_of
-state_arity = refl
-
 known_protocol : (all : List Group) (protocols : Protocols) → HasOnePorts protocols → Knowing protocols all → LineProtocol all (number_of protocols)
 known_protocol all Protocols.Every is knows = absurd is
 known_protocol all (Protocols.Only n) is knows = (protocol_text n, (knows, protocol_spells n (ports_small n is), is))
@@ -166,7 +134,7 @@ module _ {W : ℕ} (Reads : Text → ℕ → Type 0) where
     flags_part_by cube mask comp true = no_inner Reads Knows (codes "tcp")
     flags_part_by cube mask comp false =
         option_part Reads Knows (codes "tcp") (codes "--tcp-flags") (bare (flags_text cube.mask) ∷ bare (flags_text cube.comp) ∷ []) (Prim (Prim_.Flags cube.mask cube.comp))
-        flags_arity (refl, lit≤ tt)
+        (arity_is (codes "tcp") (codes "--tcp-flags") 2 refl) (refl, lit≤ tt)
         (λ all knows. tcp_flags (flags_text cube.mask) (flags_text cube.comp) cube.mask cube.comp refl refl refl (flags_spelled cube.mask mask) (flags_spelled cube.comp comp) refl)
         (code_is_written (codes "--tcp-flags") refl) (flags_written cube.mask mask, (flags_written cube.comp comp, tt))
 
@@ -193,13 +161,13 @@ module _ {W : ℕ} (Reads : Text → ℕ → Type 0) where
         → IsPart {W = W} Reads Knows [] (module_words (codes "tcp") (own_words line.sports line.dports line.flags)) (own_literals n line)
     tcp_part n line sports dports flags e =
         module_part Reads Knows (codes "tcp") (own_words line.sports line.dports line.flags) (own_literals n line) refl (code_is_written (codes "tcp") refl)
-        (own_part_of (codes "tcp") n (Protocols.Only n) line (inl (refl, e)) tcp_source_arity tcp_destination_arity sports dports (flags_part line.flags flags.0 flags.1))
+        (own_part_of (codes "tcp") n (Protocols.Only n) line (inl (refl, e)) (arity_is (codes "tcp") (codes "--sport") 1 refl) (arity_is (codes "tcp") (codes "--dport") 1 refl) sports dports (flags_part line.flags flags.0 flags.1))
 
     udp_part : (n : ℕ) (line : Choice) → IsReadable (Protocols.Only n) line.sports → IsReadable (Protocols.Only n) line.dports → IsFlagCube (Protocols.Only n) line.flags → n ≡ 17
         → IsPart {W = W} Reads Knows [] (module_words (codes "udp") (own_words line.sports line.dports line.flags)) (own_literals n line)
     udp_part n line sports dports flags e =
         module_part Reads Knows (codes "udp") (own_words line.sports line.dports line.flags) (own_literals n line) refl (code_is_written (codes "udp") refl)
-        (own_part_of (codes "udp") n (Protocols.Only n) line (inr (refl, e)) udp_source_arity udp_destination_arity sports dports
+        (own_part_of (codes "udp") n (Protocols.Only n) line (inr (refl, e)) (arity_is (codes "udp") (codes "--sport") 1 refl) (arity_is (codes "udp") (codes "--dport") 1 refl) sports dports
         (no_flags_by (codes "udp") line.flags (line.flags.mask == 0) (no_mask n line.flags e flags)))
 
     own_by : (n : ℕ) (line : Choice) → IsReadable (Protocols.Only n) line.sports → IsReadable (Protocols.Only n) line.dports → IsFlagCube (Protocols.Only n) line.flags
@@ -235,12 +203,12 @@ module _ {W : ℕ} (Reads : Text → ℕ → Type 0) where
 
   pub source_list_part : (protocols : Protocols) (ports : Ports) → IsReadable protocols ports
       → IsPart {W = W} Reads (Knowing protocols) [] (listed_words (codes "--sports") ports) (listed_literals (source_ports (number_of protocols)) ports)
-  source_list_part = listed_part (codes "--sports") source_ports sources_arity (refl, lit≤ tt)
+  source_list_part = listed_part (codes "--sports") source_ports (arity_is (codes "multiport") (codes "--sports") 1 refl) (refl, lit≤ tt)
       (λ all n text rs line is. source_port_list n text rs refl refl refl line is refl) (code_is_written (codes "--sports") refl)
 
   pub destination_list_part : (protocols : Protocols) (ports : Ports) → IsReadable protocols ports
       → IsPart {W = W} Reads (Knowing protocols) [] (listed_words (codes "--dports") ports) (listed_literals (destination_ports (number_of protocols)) ports)
-  destination_list_part = listed_part (codes "--dports") destination_ports destinations_arity (refl, lit≤ tt)
+  destination_list_part = listed_part (codes "--dports") destination_ports (arity_is (codes "multiport") (codes "--dports") 1 refl) (refl, lit≤ tt)
       (λ all n text rs line is. destination_port_list n text rs refl refl refl line is refl) (code_is_written (codes "--dports") refl)
 
   -- ---- states
@@ -250,7 +218,7 @@ module _ {W : ℕ} (Reads : Text → ℕ → Type 0) where
   state_part_by Knows states some small true = no_part Reads Knows
   state_part_by Knows states some small false =
       module_part Reads Knows (codes "conntrack") (option_words (codes "--ctstate") (bare (states_text states))) (yes (Prim_.State states) ∷ []) refl (code_is_written (codes "conntrack") refl)
-      (option_part Reads Knows (codes "conntrack") (codes "--ctstate") (bare (states_text states) ∷ []) (Prim (Prim_.State states)) state_arity (refl, lit≤ tt)
+      (option_part Reads Knows (codes "conntrack") (codes "--ctstate") (bare (states_text states) ∷ []) (Prim (Prim_.State states)) (arity_is (codes "conntrack") (codes "--ctstate") 1 refl) (refl, lit≤ tt)
       (λ all knows. connection_state (states_text states) states refl refl refl (states_listed states some small) refl) (code_is_written (codes "--ctstate") refl)
       (states_written states some small, tt))
 

@@ -11,7 +11,7 @@ use Rattle.primitives.specs.declared.prim.Prim_.{Prim_}
 use Rattle.primitives.specs.Words.{Named, SpellsProto, number_in, proto_names}
 use Rattle.fw_rule.specs.declared.rule.Lit.{Lit}
 use Rattle.box_norm.specs.Pieces.{single}
-use Rattle.dump_grammar.specs.Groups.{Base, Group, arity_of}
+use Rattle.dump_grammar.specs.Groups.{Base, Group}
 use Rattle.dump_grammar.specs.Lines.{Text, bare}
 use Rattle.dump_grammar.specs.Literals.{IsBaseLiteral}
 use Rattle.dump_print.specs.declared.protocols.Protocols.{Protocols}
@@ -21,7 +21,7 @@ use Rattle.dump_print.specs.Protocols.{name_of, protocol_text, protocols_of, pro
 use Rattle.printed_filter.specs.Literals.{no, protocol_literals, yes}
 use Rattle.printed_text.proofs.NumberLemmas.{IsNumber, lacked_number}
 use Rattle.printed_text.proofs.WordLemmas.{CanStand, clean_decimal, clean_is_written, code_is_written, is_clean, some_decimal}
-use Rattle.printed_text.proofs.PartLemmas.{IsPart, MaybePart, base_part, no_part}
+use Rattle.printed_text.proofs.PartLemmas.{arity_is, IsPart, MaybePart, base_part, no_part}
 
 -- ---- how a protocol is written
 -- each name is read as its number, and can stand in a line
@@ -125,16 +125,12 @@ Knowing (Protocols.Only n) groups = Contains groups (Base false (codes "-p") (pr
 Knowing (Protocols.AllBut n) groups = Unit {0}
 Knowing Protocols.Others groups = Unit {0}
 
-pub protocol_arity : arity_of [] (codes "-p") ≡ Some 1
-unfolding arity_of
-protocol_arity = refl
-
 module _ (W : ℕ) (Reads : Text → ℕ → Type 0) where
   pub protocol_says : (negated : Bool) (n : ℕ) → IsNumber n → IsBaseLiteral {W = W} Reads negated (codes "-p") (protocol_text n ∷ []) (Lit.Known negated (Prim (Prim_.Proto n)))
   protocol_says negated n is = inr (inr (inr (inr (inl (protocol_text n, (refl, refl, inr (n, (protocol_spells n is.1, is.0, refl, refl))))))))
 
   abbrev pub protocol_part : (Knows : List Group → Type 0) (n : ℕ) → IsNumber n → IsPart {W = W} Reads Knows (codes "-p" ∷ []) (option_words (codes "-p") (bare (protocol_text n))) (yes (Prim_.Proto n) ∷ [])
-  protocol_part Knows n is = base_part Reads Knows false (codes "-p") (bare (protocol_text n)) (yes (Prim_.Proto n)) refl protocol_arity
+  protocol_part Knows n is = base_part Reads Knows false (codes "-p") (bare (protocol_text n)) (yes (Prim_.Proto n)) refl (arity_is [] (codes "-p") 1 refl)
       (protocol_says false n is) (code_is_written (codes "-p") refl) (protocol_is_written n is.1)
 
   -- the part, which has the option of the one protocol itself
@@ -151,7 +147,7 @@ module _ (W : ℕ) (Reads : Text → ℕ → Type 0) where
   protocols_part (Protocols.AllBut n) is = record {
     maybe = record {
       there = true;
-      part = base_part Reads (Knowing (Protocols.AllBut n)) true (codes "-p") (bare (protocol_text n)) (no (Prim_.Proto n)) refl protocol_arity
+      part = base_part Reads (Knowing (Protocols.AllBut n)) true (codes "-p") (bare (protocol_text n)) (no (Prim_.Proto n)) refl (arity_is [] (codes "-p") 1 refl)
           (protocol_says true n is) (code_is_written (codes "-p") refl) (protocol_is_written n is.1);
     };
     knows = tt;

@@ -1,5 +1,5 @@
 -- The patterns of the simple rules stand in known literals of the dump.
-use Rattle.std.proofs.Common.{◌≡◌, ℕ, zero, suc, List, [], ◌∷◌, ◌++◌, map, Contains, refl, sym, subst, arith, inl, inr, ◌⊎◌}
+use Rattle.std.proofs.Common.{◌≡◌, ℕ, zero, suc, List, [], ◌∷◌, ◌++◌, map, Contains, sym, subst, arith, inl, inr, ◌⊎◌}
 use Rattle.std.specs.List.{AllByRecursion}
 use Rattle.match_expr.specs.declared.expr.Expr.{Expr, map-Expr, roll-Expr}
 use Rattle.match_expr.specs.declared.expr.Expr.TheOpen.{Expr-F}
@@ -11,6 +11,7 @@ use Rattle.primitives.specs.declared.prim.Prim_.{Prim_}
 use Rattle.fw_rule.specs.declared.rule.Dump.{Dump}
 use Rattle.match_expr.specs.Primitives.{joined, listed, primitives_in}
 use Rattle.closure.specs.Sources.{IsKnown, AreKnown}
+use Rattle.closure.proofs.SourceLemmas.{each_contained}
 use Rattle.box_norm.specs.declared.cube.Cube.{Cube}
 use Rattle.box_norm.specs.declared.cube.SimpleRule.{SimpleRule}
 use Rattle.box_norm.specs.Normal.{normal_of}
@@ -26,10 +27,6 @@ all_left Q (x ∷ a) b h = (h.0, all_left Q a b h.1)
 all_right : {X : Type 0} (Q : X → Type 0) (a b : List X) → AllByRecursion Q (a ++ b) → AllByRecursion Q b
 all_right Q [] b h = h
 all_right Q (x ∷ a) b h = all_right Q a b h.1
-
-each_contained : {X : Type 0} (Q : X → Type 0) (xs : List X) → ((x : X) → Contains xs x → Q x) → AllByRecursion Q xs
-each_contained Q [] f = tt
-each_contained Q (x ∷ xs) f = (f x (zero, omega arith, refl), each_contained Q xs (λ y c. f y (suc c.0, omega (arith, c.1), c.2)))
 
 contained : {X : Type 0} (Q : X → Type 0) (xs : List X) (x : X) → AllByRecursion Q xs → Contains xs x → Q x
 contained Q [] x h (i, less, at) = absurd (grind (arith, less))

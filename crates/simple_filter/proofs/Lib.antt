@@ -1,4 +1,5 @@
 pub mod ClosedLaws
 pub mod CutInTurn
+pub mod HidingLemmas
 pub mod KnownNames
 pub mod Takings

@@ -36,11 +36,15 @@ module _ {W : ℕ} where
   is_name (Prim_.OutName pattern) = true
   is_name x = false
 
+  -- the tests that are hidden, with each literal in which one of them stands
+  abbrev pub tests : Hide → Prim_ W → Bool
+  tests Hide.Nothing = λ x. false
+  tests Hide.OutNames = is_out_name
+  tests Hide.BothNames = is_name
+
   -- whether a literal of this expression is hidden
   abbrev pub hides : Hide → Expr (Prim_ W) → Bool
-  hides Hide.Nothing expr = false
-  hides Hide.OutNames expr = stands_in is_out_name expr
-  hides Hide.BothNames expr = stands_in is_name expr
+  hides hide expr = stands_in (tests hide) expr
 
   -- the dump with these literals unknown, negated ones too, and all else as it is
   abbrev pub hidden : Hide → Dump (Prim_ W) → Dump (Prim_ W)

@@ -1,7 +1,7 @@
 ghost use Rattle.std.specs.Prelude.{◌≡◌, IfOk};
 ghost use Rattle.fw_rule.specs.Hiding.{hidden_chain, hidden_literal, hidden_rule};
 ghost use Rattle.simple_filter.specs.Hidden as spec;
-ghost use Rattle.simple_filter.specs.Hidden.{hidden, is_name, is_out_name, stands_in};
+ghost use Rattle.simple_filter.specs.Hidden.{hidden};
 
 use fw_rule::{Action, Chain, Dump, Lit, Rule};
 use match_expr::{Bytes, Expr, List, Primitive};
@@ -19,53 +19,14 @@ pub enum Hide {
     BothNames,
 }
 
-/// Whether it tests the name of the output interface.
-fn tests_out_name<const W: u32>(prim: &Prim_<W>) -> bool
-    ensures { result ≡ is_out_name prim.now }
+/// Whether literals with this test are hidden.
+fn tests<const W: u32>(hide: Hide, prim: &Prim_<W>) -> bool
+    ensures { result ≡ spec.tests hide prim.now }
 {
-    matches!(prim, Prim_::OutName(_))
-}
-
-/// Whether it tests the name of an interface.
-fn tests_name<const W: u32>(prim: &Prim_<W>) -> bool
-    ensures { result ≡ is_name prim.now }
-{
-    matches!(prim, Prim_::InName(_) | Prim_::OutName(_))
-}
-
-/// Whether a test of the name of the output interface stands in an expression.
-fn has_out_name<const W: u32>(expr: &Expr<Prim_<W>>) -> bool
-    ensures { result ≡ stands_in is_out_name expr.now }
-{
-    match expr {
-        Expr::All(parts) => {
-            for part in parts.as_slice() {
-                if has_out_name(part) {
-                    return true;
-                }
-            }
-            false
-        }
-        Expr::Not(part) => has_out_name(part.get()),
-        Expr::Prim(prim) => tests_out_name(prim),
-    }
-}
-
-/// Whether a test of the name of an interface stands in an expression.
-fn has_name<const W: u32>(expr: &Expr<Prim_<W>>) -> bool
-    ensures { result ≡ stands_in is_name expr.now }
-{
-    match expr {
-        Expr::All(parts) => {
-            for part in parts.as_slice() {
-                if has_name(part) {
-                    return true;
-                }
-            }
-            false
-        }
-        Expr::Not(part) => has_name(part.get()),
-        Expr::Prim(prim) => tests_name(prim),
+    match hide {
+        Hide::Nothing => false,
+        Hide::OutNames => matches!(prim, Prim_::OutName(_)),
+        Hide::BothNames => matches!(prim, Prim_::InName(_) | Prim_::OutName(_)),
     }
 }
 
@@ -73,10 +34,17 @@ fn has_name<const W: u32>(expr: &Expr<Prim_<W>>) -> bool
 fn hides<const W: u32>(hide: Hide, expr: &Expr<Prim_<W>>) -> bool
     ensures { result ≡ spec.hides hide expr.now }
 {
-    match hide {
-        Hide::Nothing => false,
-        Hide::OutNames => has_out_name(expr),
-        Hide::BothNames => has_name(expr),
+    match expr {
+        Expr::All(parts) => {
+            for part in parts.as_slice() {
+                if hides(hide, part) {
+                    return true;
+                }
+            }
+            false
+        }
+        Expr::Not(part) => hides(hide, part.get()),
+        Expr::Prim(prim) => tests(hide, prim),
     }
 }
 

@@ -15,8 +15,8 @@ ghost use Rattle.spoof_check.specs.Verdicts.{HoldsWhole, IsRight, IsSaid, IsSear
 
 use crate::answers::Spoof;
 use box_norm::{Cube, SimpleRule, whole};
-use closure::Side;
-use fw_rule::{Chain, Dump, Verdict};
+use closure::{Side, policy_of};
+use fw_rule::{Dump, Verdict};
 use interval_set::Set;
 use match_expr::{Bytes, List};
 use name_set::{NameSet, Pattern};
@@ -147,22 +147,6 @@ pub fn verdict<const W: u32>(
         Ok(verdict) => Ok(verdict),
         Err(RegionFault::Regions) => Err(Refusal::Limit(Kind::Regions)),
         Err(RegionFault::Memory) => Err(Refusal::Memory),
-    }
-}
-
-/// The policy of a chain that has one.
-fn policy_of<const W: u32>(dump: &Dump<Prim_<W>>, chain: u32) -> Verdict
-    requires { HasPolicy dump.now chain }
-    ensures { HasVerdict dump.now chain result }
-{
-    match dump.chains.as_slice().get(chain as usize) {
-        Some(
-            Chain {
-                policy: Some(policy),
-                ..
-            },
-        ) => *policy,
-        _ => unreachable!(),
     }
 }
 
