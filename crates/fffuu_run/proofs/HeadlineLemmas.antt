@@ -1,6 +1,5 @@
 -- The text of a closed chain's rules is a filter of the chain.
-use Rattle.std.proofs.Common.{◌≡◌, ◌∙◌, ◌↔◌, ℕ, suc, List, [], ◌∷◌, Bool, true, false, Option, Some, None, refl, ap, sym, subst, slice_get, is_some, unwrap_or, Contains, get_or, length, map, filter, arith, inl, inr, ◌<◌}
-use Rattle.std.specs.List.{AllByRecursion}
+use Rattle.std.proofs.Common.{◌≡◌, ◌∙◌, ◌↔◌, ℕ, List, [], ◌∷◌, Bool, true, false, Option, Some, None, refl, ap, sym, subst, slice_get, is_some, unwrap_or, Contains, map, filter, inl, inr}
 use Rattle.std.proofs.lemmas.Option.{slice_get-map}
 use Rattle.primitives.specs.declared.prim.Prim_.{Prim_}
 use Rattle.primitives.specs.Holds.{holds_of}
@@ -66,11 +65,6 @@ accepting (Some true) policy = (λ h. refl, λ h. refl)
 accepting (Some false) policy = (λ h. absurd (cc), λ h. absurd (cc))
 accepting None Verdict.Accept = (λ h. refl, λ h. refl)
 accepting None Verdict.Drop = (λ h. absurd (cc), λ h. absurd (cc))
-
--- what holds of each element holds of the list
-pub each_at : {X : Type 0} (Q : X → Type 0) (xs : List X) → ((k : ℕ) (d : X) → k < length xs → Q (get_or xs k d)) → AllByRecursion Q xs
-each_at Q [] each = tt
-each_at Q (x ∷ xs) each = (each 0 x (omega arith), each_at Q xs (λ k d below. each (suc k) d (omega (arith, below))))
 
 module _ {W : ℕ} (Reads : Text → ℕ → Type 0) (text_of : ℕ → Text) where
   pub is_filter_of : (side : Side) (original : Dump (Prim_ W)) (chain : ℕ) (name : Text) (policy : Verdict) (rules : List (SimpleRule W))

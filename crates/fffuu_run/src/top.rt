@@ -61,11 +61,11 @@ fn answered<S: Source, O: Sink>(
 /// arguments, and perhaps `--chain NAME`, `--family 4` or `--family 6`, and for a matrix `--side upper` or `--side lower`. The text has
 /// at most 16,777,216 bytes. The answer to `check` is a line of counts of its filter table. To `upper` it is the text of a filter that
 /// accepts exactly the valid packets that some truth of the unknown matches lets the asked chain accept, and to `lower` one that
-/// accepts exactly those that every such truth does. To `matrix`, with a service, it is the partition of all addresses into the
-/// fewest classes by which of them may (or must) be let open the service to which, the tests of interface names counted as unknown.
-/// To `spoof`, with interfaces and the addresses behind each, it is for each of them whether packets from other sources may pass, the tests of
-/// output interfaces counted as unknown. To `explain`, with the fields of a packet, it is how the packet is accepted and how it is
-/// dropped. A load reads nothing: its answer is how large the filters of a generated dump are.
+/// accepts exactly those that every such truth does. To `matrix`, with a service, it is the coarsest partition of all addresses by
+/// which of them may (or must) be let open the service to which, the tests of interface names counted as unknown. To `spoof`, with
+/// interfaces and the addresses behind each, it is for each of them whether a packet of the state NEW from another source may pass, the
+/// tests of output interfaces counted as unknown. To `explain`, with the fields of a packet, it is one way in which the packet is
+/// accepted and one in which it is dropped. A load reads nothing: its answer is how large the filters of a generated dump are.
 ///
 /// The refusals in their order; each comes only where none before it does:
 /// - `Usage` exactly where the words spell no request. The source stays unread.

@@ -25,7 +25,7 @@ pub enum Mode {
         /// Whether an edge stands where its packet may be accepted, or where it must be.
         side: Side,
     },
-    /// Whether packets with forged sources may pass interfaces: each of these with the addresses that live behind it.
+    /// Whether packets that open a connection may pass interfaces with forged sources: each of these with the addresses that live behind it.
     Spoof(List<Claim>),
     /// For this packet the meanings of two walks of a chain, one that accepts it and one that drops it.
     Explain(Packet),

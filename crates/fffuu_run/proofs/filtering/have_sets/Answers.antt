@@ -1,7 +1,7 @@
 use Rattle.std.proofs.Common.{arith}
 use Rattle.box_norm.specs.declared.cube.SimpleRule.{SimpleRule}
 use Rattle.dump_print.specs.Sets.{HasSets}
-use Rattle.fffuu_run.proofs.HeadlineLemmas.{each_at}
+use Rattle.ip_partition.proofs.GroupLaws.{each_at}
 use Rattle.fffuu_run.proofs.filtering.have_sets.Goals as goal
 
 pub returns : goal.returns
