@@ -52,6 +52,6 @@ measure([
     ("1,024 sources crossed with destinations", "matrix tcp:1:1", crossed),
     ("65,536 pieces of forged packets", "spoof eth0=9.9.9.9", regions),
     ("65,536 pieces, 2,000 accepts that miss", "spoof eth0=9.9.9.9", misses),
-    ("65,536 pieces, 2,000 accepts of what was dropped", "spoof eth0=9.9.9.9", searches),
+    ("65,536 pieces, 2,000 accepts behind drops", "spoof eth0=9.9.9.9", searches),
     ("nothing on standard input", "load 1000", lambda share: HEAD),
 ])
