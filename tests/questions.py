@@ -121,11 +121,26 @@ def spoof_disagreements(program, rng, family, given):
                 yield f"{line} of {net}\n{given}"
 
 
+def long_chain(rng, family):
+    """A dump of one chain of many rules between the nets of eight hosts, some of them doubtful."""
+    start, width = ("10.0.0.", 32) if family == 4 else ("2001:db8::", 128)
+
+    def net():
+        return f"{start}{rng.randrange(8)}/{rng.choice([width, width, width - 1, width - 2])}"
+
+    rules = []
+    for _ in range(rng.randrange(17, 70)):
+        said = [f"-s {net()}"] * rng.randrange(2) + [f"-d {net()}"] * rng.randrange(2) + ["-m limit --limit 5/sec"] * (rng.random() < 0.1)
+        rules.append(" ".join(["-A FORWARD", *(said or [f"-s {net()}"]), "-j", rng.choice(["ACCEPT", "DROP"])]))
+    return "\n".join(["*filter", f":FORWARD {rng.choice(['ACCEPT', 'DROP'])} [0:0]", *rules, "COMMIT", ""])
+
+
 def disagreements(program, rng, family):
-    """What is wrong with the answers for one random dump."""
+    """What is wrong with the answers for two random dumps."""
     given = filters.text(rng, family)
     yield from matrix_disagreements(program, rng, family, given)
     yield from spoof_disagreements(program, rng, family, given)
+    yield from matrix_disagreements(program, rng, family, long_chain(rng, family))
 
 
 if __name__ == "__main__":
