@@ -25,12 +25,12 @@ AreDisjoint classes = (i j n : ℕ) → IsIn classes i n → IsIn classes j n �
 abbrev pub AreTogether : List (List Range) → ℕ → ℕ → Type 0
 AreTogether classes n m = (i : ℕ) × IsIn classes i n × IsIn classes i m
 
--- between two classes `E` holds of all pairs of their numbers or of none
+-- from each class to each, itself too, `E` holds of all pairs of their numbers or of none
 abbrev pub IsUniform : (ℕ → ℕ → Type 0) → List (List Range) → Type 0
 IsUniform E classes = (i j s t d e : ℕ) → IsIn classes i s → IsIn classes i t → IsIn classes j d → IsIn classes j e → E s d ↔ E t e
 
--- The classes are the coarsest between which `E` is uniform: whatever other classes cover the numbers of w bits and are so too, what is
--- in one of those is in one of these.
+-- No classes that cover the numbers of w bits, and between which `E` is uniform, join what these part: numbers that are together in one
+-- of those are together in one of these.
 abbrev pub IsCoarsest : ℕ → (ℕ → ℕ → Type 0) → List (List Range) → Type 0
 IsCoarsest w E classes = (others : List (List Range)) → Covers w others → IsUniform E others →
     (n m : ℕ) → n < 2 ^ w → m < 2 ^ w → AreTogether others n m → AreTogether classes n m

@@ -23,7 +23,8 @@ packet_at Fixed.Destination service here there = service_packet service there he
 abbrev pub accepts_at : {W : ℕ} → Fixed → List (SimpleRule W) → Verdict → Service → ℕ → ℕ → Bool
 accepts_at fixed rules policy service here there = unwrap_or (first_of rules (packet_at fixed service here there)) (is_accept policy)
 
--- What a part of a list tells of the other addresses: it accepts those of the one set, and no rule of it holds of those of the other.
+-- What a part of a list tells of the other addresses: it accepts those of the one set, and of those of the other that it doesn't accept
+-- no rule of it holds.
 -- `otherwise` stands for what is answered where no rule holds.
 abbrev pub Tells : {W : ℕ} → Fixed → List (SimpleRule W) → Service → ℕ → Part W → Type 0
 Tells {W} fixed rules service here part = (there : ℕ) (otherwise : Bool) → (has part.accepted there || (has part.undecided there && otherwise))

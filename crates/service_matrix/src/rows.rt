@@ -157,7 +157,8 @@ fn with_policy<const W: u32>(
     }
 }
 
-/// What a part of the list tells of the other addresses: those that it accepts, and those of which no rule of it tells.
+/// What a part of the list tells of the other addresses: those that it accepts, and those that it leaves to what follows where it doesn't
+/// accept them.
 #[derive(Drop)]
 struct Part<const W: u32> {
     accepted: Set<W>,

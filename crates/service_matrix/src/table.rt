@@ -10,7 +10,7 @@ use match_expr::List;
 /// Classes of addresses, and from which class an edge goes to which. W is the number of bits of an address, 32 or 128.
 #[derive(Drop)]
 pub struct Matrix<const W: u32> {
-    /// The classes, in the order of their least addresses. Each address is in one of them.
+    /// The classes. As `matrix` gives them, they stand in the order of their least addresses, and each address is in one of them.
     pub classes: List<Set<W>>,
     /// For each class, in the same order, whether an edge goes from it to each of the classes.
     pub edges: List<List<bool>>,
