@@ -1,0 +1,8 @@
+//! What every crate above rests on: the parts of a text at a byte, and small facts on lists and truth values.
+#![tactic(auto)]
+
+mod parting;
+#[cfg(test)]
+mod tests;
+
+pub use parting::{last_parted, parted};
