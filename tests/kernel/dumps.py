@@ -1,0 +1,100 @@
+"""Random filters that the real tools take, and packets at the borders of their rules."""
+import ipaddress
+
+from lab import NAMES
+from packets import Packet
+
+PATTERNS = [*NAMES, "eth+", "eth1+", "pp+", "w+"]
+UNKNOWN = ["-m limit --limit 5/sec --limit-burst 5", "-m recent --rcheck --name seen --rsource", "-m statistic --mode random --probability 0.5",
+           "-m length --length 40:60", "-m mark --mark 0x1"]
+PORT_WORDS = ["22", "80", "1024:65535", "0:21", "53", "65535", "443:444"]
+LISTS = ["80,443", "22,25,80:90", "0:9,11:19,21:29", "53", "1,3,5,7,9,11,13,15,17,19,21,23,25,27,29", "1024:65535,80"]
+PORTS = [0, 1, 9, 10, 21, 22, 23, 25, 53, 79, 80, 85, 90, 91, 443, 444, 445, 1023, 1024, 65535]
+PROTOCOLS = ["tcp", "tcp", "tcp", "udp", "udp", "icmp", "sctp", "47", "dccp", "udplite", "esp", "igmp"]
+NUMBERS = [1, 2, 6, 6, 6, 17, 17, 33, 47, 50, 51, 58, 89, 132, 136, 255]
+FLAG_TESTS = ["--syn", "--tcp-flags SYN,ACK SYN", "--tcp-flags ALL NONE", "--tcp-flags FIN,RST FIN", "--tcp-flags SYN,RST,ACK,FIN,PSH,URG SYN,ACK"]
+STATES = ["INVALID", "NEW", "RELATED", "ESTABLISHED", "UNTRACKED"]
+LINES = {4: ["0.0.0.5", "9.255.255.255", "10.0.0.0", "10.0.0.1", "10.0.1.0", "10.255.255.255", "11.0.0.0", "192.168.1.7", "192.168.1.8", "223.255.255.255"],
+         6: ["2001:db8::", "2001:db8::1", "2001:db8::2", "2001:db8:0:1::", "2001:db8:ffff:ffff:ffff:ffff:ffff:ffff", "2001:db9::", "fc00::1", "fec0::1"]}
+LENGTHS = {4: [1, 7, 8, 24, 31, 32], 6: [1, 31, 32, 64, 127, 128]}
+
+
+def maybe_not(rng):
+    return "! " if rng.random() < 0.35 else ""
+
+
+def address_match(rng, family):
+    lines = LINES[family]
+    if rng.random() < 0.3:
+        first, last = sorted(rng.sample(range(len(lines)), 2))
+        return f"-m iprange {maybe_not(rng)}{rng.choice(['--src-range', '--dst-range'])} {lines[first]}-{lines[last]}"
+    return f"{maybe_not(rng)}{rng.choice(['-s', '-d'])} {rng.choice(lines)}/{rng.choice(LENGTHS[family])}"
+
+
+def ports_match(rng, name, negated):
+    if negated or name not in ("tcp", "udp", "sctp", "dccp", "udplite"):
+        return []
+    found = []
+    if name in ("tcp", "udp") and rng.random() < 0.5:
+        found.append(f"-m {name} {maybe_not(rng)}{rng.choice(['--sport', '--dport'])} {rng.choice(PORT_WORDS)}")
+    if name == "tcp" and rng.random() < 0.35:
+        found.append(f"-m tcp {maybe_not(rng)}{rng.choice(FLAG_TESTS)}")
+    if rng.random() < 0.4:
+        found.append(f"-m multiport {maybe_not(rng)}{rng.choice(['--sports', '--dports', '--ports'])} {rng.choice(LISTS)}")
+    return found
+
+
+def protocol_match(rng, family):
+    name = rng.choice(PROTOCOLS)
+    name = "ipv6-icmp" if name == "icmp" and family == 6 else name
+    negated = rng.random() < 0.25
+    return [f"{'! ' if negated else ''}-p {name}", *ports_match(rng, name, negated)]
+
+
+def matches(rng, family, kind):
+    found = []
+    if rng.random() < 0.45:
+        found.append(address_match(rng, family))
+    for side in ("-i", "-o"):
+        if kind.names and rng.random() < 0.25:
+            found.append(f"{maybe_not(rng)}{side} {rng.choice(PATTERNS)}")
+    if rng.random() < 0.6:
+        found += protocol_match(rng, family)
+    if kind.states and rng.random() < 0.4:
+        found.append(f"-m {rng.choice(['conntrack {}--ctstate', 'state {}--state']).format(maybe_not(rng))} {','.join(rng.sample(STATES, rng.choice([1, 1, 2, 3])))}")
+    if rng.random() < 0.1:
+        found.append('-m comment --comment "a word, \\"two\\" -j DROP"')
+    if kind.unknown and rng.random() < 0.4:
+        found.append(rng.choice(UNKNOWN))
+    return found
+
+
+def target(rng, chains):
+    words = ["ACCEPT"] * 4 + ["DROP"] * 4 + ["RETURN"] * 2 + ["NFLOG --nflog-group 7", "CONNMARK --save-mark", "MARK --set-xmark 0x1/0xffffffff", ""] + chains * 2
+    return rng.choice(words)
+
+
+def text(rng, family, kind):
+    """A filter table as iptables-restore takes it. Chains call only later ones."""
+    users = ["A", "B", "C"][:rng.randrange(4)]
+    lines = ["*filter", ":INPUT ACCEPT [0:0]", f":FORWARD {rng.choice(['ACCEPT', 'DROP'])} [0:0]", ":OUTPUT ACCEPT [0:0]"]
+    lines += [f":{name} - [0:0]" for name in users]
+    for at, name in enumerate(["FORWARD", *users]):
+        for _ in range(rng.randrange(2, 8)):
+            goes = target(rng, users[at:])
+            lines.append(" ".join([f"-A {name}", *matches(rng, family, kind), *([f"-j {goes}"] if goes else [])]))
+    return "\n".join([*lines, "COMMIT", ""])
+
+
+def address(rng, family):
+    value = int(ipaddress.ip_address(rng.choice(LINES[family]))) + rng.choice([-1, 0, 0, 0, 1])
+    return min(max(value, 0), 2 ** (32 if family == 4 else 128) - 1)
+
+
+def packet(rng, family):
+    number = rng.choice(NUMBERS)
+    number = 58 if family == 6 and number == 1 else number
+    with_ports = number in (6, 17, 33, 132, 136)
+    return Packet(family, rng.choice(NAMES), rng.choice(NAMES), address(rng, family), address(rng, family), number,
+                  rng.choice(PORTS) if with_ports else 0, rng.choice(PORTS) if with_ports else 0,
+                  rng.choice([2, 2, 16, 18, 0, 1, 17, 63, rng.randrange(64)]) if number == 6 else 0)

@@ -1,0 +1,98 @@
+"""Packets as bytes: whole, well-formed ones, each with a mark of its own."""
+import dataclasses
+import ipaddress
+import struct
+
+FLAGS = ["FIN", "SYN", "RST", "PSH", "ACK", "URG"]
+WITH_PORTS = (6, 17, 33, 132, 136)
+
+
+def sum_of(data):
+    data += b"\0" * (len(data) % 2)
+    total = sum(struct.unpack(f">{len(data) // 2}H", data))
+    while total >> 16:
+        total = (total & 0xFFFF) + (total >> 16)
+    return ~total & 0xFFFF
+
+
+def crc32c(data):
+    crc = 0xFFFFFFFF
+    for byte in data:
+        crc ^= byte
+        for _ in range(8):
+            crc = crc >> 1 ^ 0x82F63B78 * (crc & 1)
+    return struct.pack("<I", crc ^ 0xFFFFFFFF)
+
+
+@dataclasses.dataclass(frozen=True)
+class Packet:
+    family: int
+    into: str
+    out: str
+    src: int
+    dst: int
+    proto: int
+    sport: int = 0
+    dport: int = 0
+    flags: int = 0
+
+    def fields(self):
+        """The words of `explain` for this packet."""
+        text = ipaddress.IPv4Address if self.family == 4 else ipaddress.IPv6Address
+        names = ",".join(name for at, name in enumerate(FLAGS) if self.flags >> at & 1) or "NONE"
+        return [f"in={self.into}", f"out={self.out}", f"src={text(self.src)}", f"dst={text(self.dst)}", f"proto={self.proto}",
+                f"sport={self.sport}", f"dport={self.dport}", f"flags={names}"]
+
+    def ends(self):
+        size = 4 if self.family == 4 else 16
+        return self.src.to_bytes(size, "big") + self.dst.to_bytes(size, "big")
+
+    def pseudo(self, length):
+        if self.family == 4:
+            return self.ends() + struct.pack(">BBH", 0, self.proto, length)
+        return self.ends() + struct.pack(">IHBB", length, 0, 0, self.proto)
+
+    def with_sum(self, body, at):
+        check = sum_of(self.pseudo(len(body)) + body) or 0xFFFF
+        return body[:at] + struct.pack(">H", check) + body[at + 2:]
+
+    def body(self):
+        """The header of the protocol, whole, with right sums."""
+        ports = struct.pack(">HH", self.sport, self.dport)
+        if self.proto == 6:
+            return self.with_sum(ports + struct.pack(">IIBBHHH", 1000, 0, 5 << 4, self.flags, 8192, 0, 0), 16)
+        if self.proto == 17:
+            return self.with_sum(ports + struct.pack(">HH", 12, 0) + b"fffu", 6)
+        if self.proto == 136:
+            return self.with_sum(ports + struct.pack(">HH", 12, 0) + b"fffu", 6)
+        if self.proto == 33:
+            # a request of DCCP, with 48 bits of sequence numbers and a service code
+            return self.with_sum(ports + struct.pack(">BBHBBHII", 5, 0, 0, 1, 0, 0, 1000, 42), 6)
+        if self.proto == 132:
+            chunk = struct.pack(">BBHIIHHI", 1, 0, 20, 7, 65536, 1, 1, 1000)
+            return ports + struct.pack(">I", 0) + crc32c(ports + b"\0" * 8 + chunk) + chunk
+        if self.proto == 1:
+            return icmp(8, b"")
+        if self.proto == 58:
+            return self.with_sum(struct.pack(">BBHHH", 128, 0, 0, 1, 1), 2)
+        if self.proto == 47:
+            return struct.pack(">HH", 0, 0x0800) + b"\0" * 8
+        return b"\0" * 16
+
+    def frame(self, mark, tos):
+        body = self.body()
+        if self.family == 6:
+            return struct.pack(">IHBB", 6 << 28 | tos << 20 | mark, len(body), self.proto, 64) + self.ends() + body
+        head = struct.pack(">BBHHHBBH", 0x45, tos, 20 + len(body), mark, 0, 64, self.proto, 0) + self.ends()
+        return head[:10] + struct.pack(">H", sum_of(head)) + head[12:] + body
+
+    def is_in(self, data):
+        """Whether the datagram is this packet, one hop further."""
+        if self.family == 4:
+            return data[12:20] == self.ends() and data[8] == 63 and data[9] == self.proto
+        return data[8:40] == self.ends() and data[7] == 63 and data[6] == self.proto
+
+
+def icmp(kind, _):
+    body = struct.pack(">BBHHH", kind, 0, 0, 1, 1)
+    return body[:2] + struct.pack(">H", sum_of(body)) + body[4:]
