@@ -282,15 +282,15 @@ def root(text):
     return node
 
 
-GRAMMARS = ['addr_text.Grammar.IsIpv4', 'addr_text.Grammar.IsIpv6', 'fffuu_run.Questions.IsAsked']
-RUN = ['fffuu_run.Runs.Ends', 'fw_io.Causes.Rose']
+GRAMMARS = ['addr_text.Grammar.IsIpv4', 'addr_text.Grammar.IsIpv6', 'fffuu_run.Questions.AsksChain']
+RUN = ['fffuu_run.Runs.IsRun', 'fw_io.Causes.Rose']
 STREAMS = [Type('fw_io', ('traits',), 'Source'), Type('fw_io', ('traits',), 'Sink')]
-# What a measure of `run` leaves out, by crate: words of the command line, refusals, other modes, and which bytes are written.
+# What a measure of `run` leaves out, by crate: words of the command line, refusals and limits, other modes, and which bytes are written.
 WORDS = {('request', 'Spells'), ('request', 'chain_in')}
-REFUSALS = {('fffuu_run', 'Refuses'), ('fffuu_run', 'RefusesModeIn')}
-OTHERS = {('fffuu_run', it) for it in ('Checks', 'Explains', 'Loads')}
-BYTES = {('fffuu_run', it) for it in ('IsFilterText', 'matrix_text', 'verdict_line', 'ipv4_of', 'ipv6_of')} | {
-    ('spoof_check', 'IsShown'), ('spoof_check', 'IsClosed'), ('service_matrix', 'HasFewAtoms')}
+REFUSALS = {('fffuu_run', it) for it in (
+    'IsRefusedAs', 'RefusesModeIn', 'IsWithin', 'IsCheckOver', 'IsExplanationOver', 'IsClosingOver', 'IsFilterOver', 'IsLoadOver', 'IsMatrixOver', 'IsSpoofOver')}
+OTHERS = {('fffuu_run', it) for it in ('Checks', 'Explanations', 'Loads')}
+BYTES = {('fffuu_run', it) for it in ('simple_rules', 'matrix_text', 'verdict_line', 'ipv4_of', 'ipv6_of')} | {('spoof_check', 'IsShown'), ('dump_print', 'printed')}
 
 MEASURES = {
     'filter': ('what a printed filter means', ['fffuu_run.Headline.IsFilterOf', *GRAMMARS], [], set()),
@@ -302,7 +302,7 @@ MEASURES = {
     'bytes': ('all modes, with the bytes that are written', RUN, STREAMS, REFUSALS),
     'all': ('all that the contract of `run` cites, with each refusal and each line on standard error', RUN + [
         'request.Requests.Spells', 'fffuu_run.Lines.line_of', 'fffuu_run.Runs.IsRead', 'fffuu_run.Runs.IsStatusOf',
-        'fffuu_run.Runs.Devices', 'fffuu_run.Runs.WritesLine', 'fffuu_run.Runs.Writes', 'fffuu_run.Runs.asked_in'], STREAMS, set()),
+        'fffuu_run.Runs.Devices', 'fffuu_run.Runs.WritesLine', 'fffuu_run.Runs.Writes', 'request.Requests.chain_in'], STREAMS, set()),
 }
 
 

@@ -7,10 +7,11 @@ use Rattle.addr_text.specs.declared.net.Net.{Net}
 use Rattle.addr_text.specs.declared.net.Net.TheVariants.{Prefix, Masked}
 use Rattle.addr_text.specs.Grammar.{IsPlain}
 use Rattle.addr_text.specs.Masks.{shortened}
-use Rattle.addr_text.specs.Parts.{Lacks}
+use Rattle.basics.specs.Parts.{Lacks}
 use Rattle.addr_text.specs.Nets.{IsLength, IsHole, IsNetOf, IsNetText, IsRangeText, HasOneNet, HasOneRange}
 use Rattle.addr_text.proofs.MaskLemmas.{mask_once}
-use Rattle.addr_text.proofs.PartLemmas.{one_parting, lacks_none, lacks_slash, lacks_dash}
+use Rattle.addr_text.proofs.PartLemmas.{lacks_slash, lacks_dash}
+use Rattle.basics.proofs.PartingLemmas.{one_parting, lacks_none}
 
 pub if_none : {A : Type 0} (r : Option A) {P : Type 0} → P → IfNone r P
 if_none (Some x) p = tt

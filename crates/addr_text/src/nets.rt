@@ -7,7 +7,7 @@ use crate::family::Family;
 use crate::masks::{mask_length, shorten};
 use crate::net::Net;
 use crate::numbers::read_number;
-use crate::parts::parted;
+use basics::parted;
 use interval_set::Range;
 
 /// Reads an address, an address `/` a length up to `W`, or an address `/` a mask in the address form of the family.

@@ -1,5 +1,6 @@
 -- The cuts by an expression hold the packets of the list where the expression holds, or where it doesn't.
 use Rattle.std.proofs.Common.{◌≡◌, ℕ, List, [], ◌∷◌, Bool, true, false, not, ◌&&◌, ◌||◌, map, refl, sym, ◌∙◌, ap, subst, arith}
+use Rattle.basics.proofs.Truths.{and_assoc, and_one}
 use Rattle.match_expr.specs.Meaning.{eval_of, every}
 use Rattle.match_expr.specs.declared.expr.Expr.{Expr, map-Expr, roll-Expr}
 use Rattle.match_expr.specs.declared.expr.Expr.TheVariants.{All, Not, Prim, rolls-All, rolls-Not, rolls-Prim}
@@ -46,14 +47,6 @@ AllKeep p [] [] = Unit {0}
 AllKeep p [] (e ∷ es) = ⊥
 AllKeep p (t ∷ ts) [] = ⊥
 AllKeep p (t ∷ ts) (e ∷ es) = Keeps p t e × AllKeep p ts es
-
-and_assoc : (a s t : Bool) → ((a && s) && t) ≡ (a && (s && t))
-and_assoc true s t = refl
-and_assoc false s t = refl
-
-and_one : (a : Bool) → a ≡ (a && true)
-and_one true = refl
-and_one false = refl
 
 and_none : (a : Bool) → false ≡ (a && false)
 and_none true = refl

@@ -2,6 +2,7 @@
 use Rattle.std.proofs.Common.{◌≡◌, ℕ, ◌<◌, ◌≤◌, ◌+◌, suc, List, [], ◌∷◌, ◌++◌, Bool, true, false, refl, sym, ◌∙◌, ap, arith, length, drop, drop-cons, add-one, get_or, length-append, append_assoc, nat_lt}
 use Rattle.std.proofs.lemmas.Bool.Decides.{nat_tests}
 use Rattle.std.specs.Prelude.{Result, Ok, Err, IfOk}
+use Rattle.limits.specs.declared.TheConstants.{MOST_CUBES, MOST_RULES}
 use Rattle.match_expr.specs.FirstMatch.{first_match}
 use Rattle.match_expr.specs.declared.expr.FlatRule.{FlatRule}
 use Rattle.primitives.specs.declared.prim.Packet.{Packet}
@@ -20,19 +21,19 @@ length_verdicts b (c ∷ cs) = let ih = length_verdicts b cs in omega (arith, ih
 
 -- what is left ends as the whole does
 pub record Normals {W : ℕ} (full : Bool) (out : List (SimpleRule W)) (rest rules : List (FlatRule (Prim_ W))) : Type 0 where
-  pub over : 16384 < boxes_of rest → 16384 < boxes_of rules
-  pub within : boxes_of rest ≤ 16384 → boxes_of rules ≤ 16384
+  pub over : MOST_CUBES < boxes_of rest → MOST_CUBES < boxes_of rules
+  pub within : boxes_of rest ≤ MOST_CUBES → boxes_of rules ≤ MOST_CUBES
   pub list : full ≡ false → out ++ normal_of rest ≡ normal_of rules
-  pub some : length out ≤ 131072
-  pub many : full ≡ true → 131072 < length (normal_of rules)
+  pub some : length out ≤ MOST_RULES
+  pub many : full ≡ true → MOST_RULES < length (normal_of rules)
 
 pub normals_begin : {W : ℕ} (rules : List (FlatRule (Prim_ W))) → Normals false [] rules rules
 normals_begin rules = record { over = λ h. h; within = λ h. h; list = λ h. refl; some = omega arith; many = λ h. absurd (grind (arith, h)) }
 
 -- the turn at one rule
 module _ {W : ℕ} (full : Bool) (out : List (SimpleRule W)) (rule : FlatRule (Prim_ W)) (rest rules : List (FlatRule (Prim_ W))) (g : Normals full out (rule ∷ rest) rules)
-    (cubes : List (Cube W)) (is : cubes ≡ ((cuts_by {W = W} rule.expr).keep (whole_of W ∷ [])).list) (small : ((cuts_by {W = W} rule.expr).keep (whole_of W ∷ [])).longest ≤ 16384) where
-  pub normals_add : full ≡ false → length out + length cubes ≤ 131072 → Normals false (out ++ with_verdict rule.accept cubes) rest rules
+    (cubes : List (Cube W)) (is : cubes ≡ ((cuts_by {W = W} rule.expr).keep (whole_of W ∷ [])).list) (small : ((cuts_by {W = W} rule.expr).keep (whole_of W ∷ [])).longest ≤ MOST_CUBES) where
+  pub normals_add : full ≡ false → length out + length cubes ≤ MOST_RULES → Normals false (out ++ with_verdict rule.accept cubes) rest rules
   normals_add f h = record {
     over = λ k. g.over (omega (arith, k));
     within = λ k. g.within (omega (arith, k, small));
@@ -41,7 +42,7 @@ module _ {W : ℕ} (full : Bool) (out : List (SimpleRule W)) (rule : FlatRule (P
     many = λ k. absurd (grind (arith, k));
   }
 
-  too_many : full ≡ false → 131072 < length out + length cubes → 131072 < length (normal_of rules)
+  too_many : full ≡ false → MOST_RULES < length out + length cubes → MOST_RULES < length (normal_of rules)
   too_many f h =
       omega (
         arith,
@@ -53,7 +54,7 @@ module _ {W : ℕ} (full : Bool) (out : List (SimpleRule W)) (rule : FlatRule (P
         length_verdicts rule.accept ((cuts_by {W = W} rule.expr).keep (whole_of W ∷ [])).list,
       )
 
-  pub normals_full : 131072 < length (normal_of rules) → Normals true out rest rules
+  pub normals_full : MOST_RULES < length (normal_of rules) → Normals true out rest rules
   normals_full m = record {
     over = λ k. g.over (omega (arith, k));
     within = λ k. g.within (omega (arith, k, small));
@@ -62,7 +63,7 @@ module _ {W : ℕ} (full : Bool) (out : List (SimpleRule W)) (rule : FlatRule (P
     many = λ k. m;
   }
 
-  pub normals_over : full ≡ false → 131072 < length out + length cubes → Normals true out rest rules
+  pub normals_over : full ≡ false → MOST_RULES < length out + length cubes → Normals true out rest rules
   normals_over f h = normals_full (too_many f h)
 
   pub normals_on : full ≡ true → Normals true out rest rules
@@ -82,35 +83,35 @@ answers_first W rules r a = answers_of W rules r (λ l. (p : Packet) → IsValid
 -- the turn at one rule of the loop
 module _ (W : ℕ) (rules : List (FlatRule (Prim_ W))) (i : ℕ) (x : FlatRule (Prim_ W)) (full : Bool) (out : List (SimpleRule W)) (lent cubes : List (Cube W))
     (h : i < length rules) (is : x ≡ get_or rules i x) (same : lent ≡ whole_of W ∷ []) (g : Normals full out (drop i rules) rules)
-    (a : (cubes ≡ ((cuts_by {W = W} x.expr).keep lent).list) × (((cuts_by {W = W} x.expr).keep lent).longest ≤ 16384)) where
+    (a : (cubes ≡ ((cuts_by {W = W} x.expr).keep lent).list) × (((cuts_by {W = W} x.expr).keep lent).longest ≤ MOST_CUBES)) where
   opened : drop i rules ≡ x ∷ drop (i + 1) rules
   opened = rw add-one (drop-cons rules i x h ∙ ap (λ y. y ∷ drop (suc i) rules) (sym is))
 
   at_rule : Normals full out (x ∷ drop (i + 1) rules) rules
   at_rule = rw opened at g
 
-  at_cubes : (cubes ≡ ((cuts_by {W = W} x.expr).keep (whole_of W ∷ [])).list) × (((cuts_by {W = W} x.expr).keep (whole_of W ∷ [])).longest ≤ 16384)
+  at_cubes : (cubes ≡ ((cuts_by {W = W} x.expr).keep (whole_of W ∷ [])).list) × (((cuts_by {W = W} x.expr).keep (whole_of W ∷ [])).longest ≤ MOST_CUBES)
   at_cubes = rw same at a
 
   pub turn_on : full ≡ true → Normals true out (drop (i + 1) rules) rules
   turn_on f = normals_on full out x (drop (i + 1) rules) rules at_rule cubes at_cubes.0 at_cubes.1 f
 
-  pub turn_over : full ≡ false → 131072 < length out + length cubes → Normals true out (drop (i + 1) rules) rules
+  pub turn_over : full ≡ false → MOST_RULES < length out + length cubes → Normals true out (drop (i + 1) rules) rules
   turn_over f k = normals_over full out x (drop (i + 1) rules) rules at_rule cubes at_cubes.0 at_cubes.1 f k
 
-  pub turn_add : full ≡ false → length out + length cubes ≤ 131072 → Normals false (out ++ with_verdict x.accept cubes) (drop (i + 1) rules) rules
+  pub turn_add : full ≡ false → length out + length cubes ≤ MOST_RULES → Normals false (out ++ with_verdict x.accept cubes) (drop (i + 1) rules) rules
   turn_add f k = normals_add full out x (drop (i + 1) rules) rules at_rule cubes at_cubes.0 at_cubes.1 f k
 
-  by_now : full ≡ false → (now : Bool) (next : List (SimpleRule W)) → (now ≡ nat_lt 131072 (length out + length cubes)) →
+  by_now : full ≡ false → (now : Bool) (next : List (SimpleRule W)) → (now ≡ nat_lt MOST_RULES (length out + length cubes)) →
       (now ≡ true → next ≡ out) → (now ≡ false → next ≡ out ++ with_verdict x.accept cubes) → Normals now next (drop (i + 1) rules) rules
   by_now f true next e stays adds = rw (stays refl) (turn_over f (grind (arith, nat_tests, e)))
   by_now f false next e stays adds = rw (adds refl) (turn_add f (grind (arith, nat_tests, e)))
 
-  by_full : (b : Bool) → full ≡ b → (now : Bool) (next : List (SimpleRule W)) → (full ≡ true → now ≡ true) → (full ≡ false → now ≡ nat_lt 131072 (length out + length cubes)) →
+  by_full : (b : Bool) → full ≡ b → (now : Bool) (next : List (SimpleRule W)) → (full ≡ true → now ≡ true) → (full ≡ false → now ≡ nat_lt MOST_RULES (length out + length cubes)) →
       (now ≡ true → next ≡ out) → (now ≡ false → next ≡ out ++ with_verdict x.accept cubes) → Normals now next (drop (i + 1) rules) rules
   by_full true f now next on off stays adds = rw (on f, stays (on f)) (turn_on f)
   by_full false f now next on off stays adds = by_now f now next (off f) stays adds
 
-  pub turn : (now : Bool) (next : List (SimpleRule W)) → (full ≡ true → now ≡ true) → (full ≡ false → now ≡ nat_lt 131072 (length out + length cubes)) →
+  pub turn : (now : Bool) (next : List (SimpleRule W)) → (full ≡ true → now ≡ true) → (full ≡ false → now ≡ nat_lt MOST_RULES (length out + length cubes)) →
       (now ≡ true → next ≡ out) → (now ≡ false → next ≡ out ++ with_verdict x.accept cubes) → Normals now next (drop (i + 1) rules) rules
   turn now next on off stays adds = by_full full refl now next on off stays adds

@@ -1,5 +1,5 @@
 -- Of the cubes that two cuts leave together, a packet is in no more than of those that were cut.
-use Rattle.std.proofs.Common.{◌≡◌, ℕ, ◌+◌, ◌^◌, ◌≤◌, List, [], ◌∷◌, ◌++◌, Bool, true, false, not, ◌&&◌, cond, nat_lt, Option, None, Some, refl, sym, ap, subst, map, arith, bit_and, bit_xor}
+use Rattle.std.proofs.Common.{◌≡◌, ℕ, ◌+◌, ◌^◌, ◌≤◌, ◌∙◌, List, [], ◌∷◌, ◌++◌, Bool, true, false, not, ◌&&◌, cond, nat_lt, Option, None, Some, refl, sym, ap, subst, map, arith, bit_and, bit_xor}
 use Rattle.std.specs.Prelude.{if◌then◌else◌, count_by}
 use Rattle.std.proofs.lemmas.List.Sums.{sum_by-append, sum_by-cons}
 use Rattle.match_expr.specs.declared.expr.Expr.{Expr, map-Expr}
@@ -19,10 +19,11 @@ use Rattle.primitives.specs.declared.prim.Prim_.{Prim_}
 use Rattle.primitives.specs.Holds.{has_bit}
 use Rattle.box_norm.specs.declared.cube.Cube.{Cube}
 use Rattle.box_norm.specs.Cubes.{holds_cube, is_none, kept, each_piece}
-use Rattle.box_norm.specs.Pieces.{single, flags_where, kept_in, kept_out, cut_pieces, omit_pieces}
+use Rattle.box_norm.specs.Pieces.{single, flags_where, cut_pieces, omit_pieces}
 use Rattle.box_norm.specs.Disjoint.{AreDisjoint}
 use Rattle.box_norm.specs.Cuts.{Cuts, keep_all, omit_all, cuts_step, cuts_by}
-use Rattle.box_norm.proofs.PieceLaws.{none_holds, bits_and, bits_less, factor1, factor2, factor3, factor4, factor5, factor6, factor7, factor8, from2, from3, from4, from5, from6, from7, from8, from9, past_in, past_out}
+use Rattle.box_norm.proofs.Dims.{Dim, Value, has_value, put, fits_in, fits_else, holds_by, put_holds}
+use Rattle.box_norm.proofs.PieceLaws.{none_holds, in_some, kept_some, out_some, bits_and, bits_less, only_proto}
 
 abbrev pub one : Bool → ℕ
 one b = cond b 1 0
@@ -56,38 +57,11 @@ here_split false true false r h = absurd (omega (arith, h))
 here_split false false true r h = absurd (omega (arith, h))
 here_split false false false r h = h
 
-under_split : (f x y z : Bool) → one y + one z ≤ one x → one (f && y) + one (f && z) ≤ one (f && x)
-under_split true x y z h = h
-under_split false x y z h = omega arith
-
 -- one dimension in two parts
-module _ {W : ℕ} (c : Cube W) (p : Packet) where
-  pub split_in_name : (y z : Bool) → one y + one z ≤ one (has_name c.in_name p.in_name) → one (y && past_in c p) + one (z && past_in c p) ≤ one (holds_cube c p)
-  split_in_name y z h = here_split (factor1 c p) y z (past_in c p) h
-
-  pub split_out_name : (y z : Bool) → one y + one z ≤ one (has_name c.out_name p.out_name) → one (factor1 c p && (y && past_out c p)) + one (factor1 c p && (z && past_out c p)) ≤ one (holds_cube c p)
-  split_out_name y z h = under_split (factor1 c p) (from2 c p) (y && past_out c p) (z && past_out c p) (here_split (factor2 c p) y z (past_out c p) h)
-
-  pub split_src : (s t : List Range) → one (has s p.src) + one (has t p.src) ≤ one (has c.src p.src) → one (holds_cube (record c { src = s }) p) + one (holds_cube (record c { src = t }) p) ≤ one (holds_cube c p)
-  split_src s t h = under_split (factor1 c p) (from2 c p) _ _ (under_split (factor2 c p) (from3 c p) _ _ (here_split (factor3 c p) (has s p.src) (has t p.src) (from4 c p) h))
-
-  pub split_dst : (s t : List Range) → one (has s p.dst) + one (has t p.dst) ≤ one (has c.dst p.dst) → one (holds_cube (record c { dst = s }) p) + one (holds_cube (record c { dst = t }) p) ≤ one (holds_cube c p)
-  split_dst s t h = under_split (factor1 c p) (from2 c p) _ _ (under_split (factor2 c p) (from3 c p) _ _ (under_split (factor3 c p) (from4 c p) _ _ (here_split (factor4 c p) (has s p.dst) (has t p.dst) (from5 c p) h)))
-
-  pub split_proto : (s t : List Range) → one (has s p.proto) + one (has t p.proto) ≤ one (has c.proto p.proto) → one (holds_cube (record c { proto = s }) p) + one (holds_cube (record c { proto = t }) p) ≤ one (holds_cube c p)
-  split_proto s t h = under_split (factor1 c p) (from2 c p) _ _ (under_split (factor2 c p) (from3 c p) _ _ (under_split (factor3 c p) (from4 c p) _ _ (under_split (factor4 c p) (from5 c p) _ _ (here_split (factor5 c p) (has s p.proto) (has t p.proto) (from6 c p) h))))
-
-  pub split_sport : (s t : List Range) → one (has s p.sport) + one (has t p.sport) ≤ one (has c.sport p.sport) → one (holds_cube (record c { sport = s }) p) + one (holds_cube (record c { sport = t }) p) ≤ one (holds_cube c p)
-  split_sport s t h = under_split (factor1 c p) (from2 c p) _ _ (under_split (factor2 c p) (from3 c p) _ _ (under_split (factor3 c p) (from4 c p) _ _ (under_split (factor4 c p) (from5 c p) _ _ (under_split (factor5 c p) (from6 c p) _ _ (here_split (factor6 c p) (has s p.sport) (has t p.sport) (from7 c p) h)))))
-
-  pub split_dport : (s t : List Range) → one (has s p.dport) + one (has t p.dport) ≤ one (has c.dport p.dport) → one (holds_cube (record c { dport = s }) p) + one (holds_cube (record c { dport = t }) p) ≤ one (holds_cube c p)
-  split_dport s t h = under_split (factor1 c p) (from2 c p) _ _ (under_split (factor2 c p) (from3 c p) _ _ (under_split (factor3 c p) (from4 c p) _ _ (under_split (factor4 c p) (from5 c p) _ _ (under_split (factor5 c p) (from6 c p) _ _ (under_split (factor6 c p) (from7 c p) _ _ (here_split (factor7 c p) (has s p.dport) (has t p.dport) (from8 c p) h))))))
-
-  pub split_flags : (s t : ℕ) → one (has_bit s p.flags) + one (has_bit t p.flags) ≤ one (has_bit c.flags p.flags) → one (holds_cube (record c { flags = s }) p) + one (holds_cube (record c { flags = t }) p) ≤ one (holds_cube c p)
-  split_flags s t h = under_split (factor1 c p) (from2 c p) _ _ (under_split (factor2 c p) (from3 c p) _ _ (under_split (factor3 c p) (from4 c p) _ _ (under_split (factor4 c p) (from5 c p) _ _ (under_split (factor5 c p) (from6 c p) _ _ (under_split (factor6 c p) (from7 c p) _ _ (under_split (factor7 c p) (from8 c p) _ _ (here_split (factor8 c p) (has_bit s p.flags) (has_bit t p.flags) (from9 c p) h)))))))
-
-  pub split_state : (s t : ℕ) → one (has_bit s p.state) + one (has_bit t p.state) ≤ one (has_bit c.state p.state) → one (holds_cube (record c { state = s }) p) + one (holds_cube (record c { state = t }) p) ≤ one (holds_cube c p)
-  split_state s t h = under_split (factor1 c p) (from2 c p) _ _ (under_split (factor2 c p) (from3 c p) _ _ (under_split (factor3 c p) (from4 c p) _ _ (under_split (factor4 c p) (from5 c p) _ _ (under_split (factor5 c p) (from6 c p) _ _ (under_split (factor6 c p) (from7 c p) _ _ (under_split (factor7 c p) (from8 c p) _ _ (under_split (factor8 c p) (from9 c p) _ _ h)))))))
+pub two_parts : {W : ℕ} (d : Dim) (c : Cube W) (p : Packet) (s t : Value d) → one (has_value d s p) + one (has_value d t p) ≤ one (fits_in d c p) →
+    one (holds_cube (put d c s) p) + one (holds_cube (put d c t) p) ≤ one (holds_cube c p)
+two_parts d c p s t h =
+    omega (arith, here_split (fits_in d c p) (has_value d s p) (has_value d t p) (fits_else d c p) h, ap one (put_holds d c s p), ap one (put_holds d c t p), ap one (holds_by d c p))
 
 -- what both have and what the second lacks
 parts : (a b x y : Bool) → x ≡ (a && b) → y ≡ (a && not b) → one x + one y ≤ one a
@@ -109,64 +83,47 @@ bit_parts a b n = parts (has_bit a n) (has_bit b n) _ _ (bits_and a b n) (bits_l
 pub name_parts : (s : NameSet) (by : Pattern) (n : List ℕ) → one (has_name_some (cut_of s by) n) + one (has_name_some (cut_not_of s by) n) ≤ one (has_name s n)
 name_parts s by n = parts (has_name s n) (fits by n) _ _ (cut_names s by n) (cut_not_names s by n)
 
-under_false : (a : Bool) → 0 ≡ one (a && false)
-under_false true = refl
-under_false false = refl
+kept_parts : {W : ℕ} (d : Dim) (c : Cube W) (p : Packet) (s t : Value d) → one (has_value d s p) + one (has_value d t p) ≤ one (fits_in d c p) →
+    times (kept (put d c s)) p + times (kept (put d c t)) p ≤ one (holds_cube c p)
+kept_parts d c p s t h = omega (arith, times_kept (put d c s) p, times_kept (put d c t) p, two_parts d c p s t h)
 
-in_times : {W : ℕ} (c : Cube W) (o : Option NameSet) (p : Packet) → times (kept_in c o) p ≡ one (has_name_some o p.in_name && past_in c p)
-in_times c None p = refl
-in_times c (Some s) p = times_kept (record c { in_name = s }) p
+some_times : {W : ℕ} (d : Dim) (c : Cube W) (with : NameSet → Cube W) (o : Option NameSet) (n : List ℕ) (p : Packet) →
+    ((s : NameSet) → holds_cube (with s) p ≡ (has_name s n && fits_else d c p)) → times (kept_some with o) p ≡ one (has_name_some o n && fits_else d c p)
+some_times d c with None n p e = refl
+some_times d c with (Some s) n p e = times_kept (with s) p ∙ ap one (e s)
 
-out_times : {W : ℕ} (c : Cube W) (o : Option NameSet) (p : Packet) → times (kept_out c o) p ≡ one (factor1 c p && (has_name_some o p.out_name && past_out c p))
-out_times c None p = under_false (factor1 c p)
-out_times c (Some s) p = times_kept (record c { out_name = s }) p
+name_times : {W : ℕ} (d : Dim) (c : Cube W) (with : NameSet → Cube W) (o q : Option NameSet) (n : List ℕ) (p : Packet) →
+    ((s : NameSet) → holds_cube (with s) p ≡ (has_name s n && fits_else d c p)) → one (has_name_some o n) + one (has_name_some q n) ≤ one (fits_in d c p) →
+    times (kept_some with o) p + times (kept_some with q) p ≤ one (holds_cube c p)
+name_times d c with o q n p e h =
+    omega (arith, some_times d c with o n p e, some_times d c with q n p e, ap one (holds_by d c p), here_split (fits_in d c p) (has_name_some o n) (has_name_some q n) (fits_else d c p) h)
 
-both_times : {W : ℕ} (a b c : Cube W) (p : Packet) → one (holds_cube a p) + one (holds_cube b p) ≤ one (holds_cube c p) → times (kept a) p + times (kept b) p ≤ one (holds_cube c p)
-both_times a b c p h = omega (arith, times_kept a p, times_kept b p, h)
-
--- `a` with one part, and the rest in two: `b` beside `a`, and `d` of what `a` was cut from
-three_times : {W : ℕ} (a b d e c : Cube W) (p : Packet) → one (holds_cube e p) + one (holds_cube b p) ≤ one (holds_cube c p) → one (holds_cube a p) + one (holds_cube d p) ≤ one (holds_cube e p) →
-    times (kept a) p + times (kept b ++ kept d) p ≤ one (holds_cube c p)
-three_times a b d e c p h k = omega (arith, times_kept a p, times_kept b p, times_kept d p, times_append (kept b) (kept d) p, h, k)
+-- one protocol and one dimension in two parts, and the other protocols beside them
+proto_times : {W : ℕ} (d : Dim) (c : Cube W) (n : ℕ) (p : Packet) (s t : Value d) → one (has_value d s p) + one (has_value d t p) ≤ one (fits_in d (only_proto c n) p) →
+    times (kept (put d (only_proto c n) s)) p + times (kept (record c { proto = set_minus 8 c.proto (single n) }) ++ kept (put d (only_proto c n) t)) p ≤ one (holds_cube c p)
+proto_times d c n p s t h =
+    let others : Cube _ = record c { proto = set_minus 8 c.proto (single n) } in
+    omega (
+      arith,
+      kept_parts d (only_proto c n) p s t h,
+      times_kept others p,
+      times_append (kept others) (kept (put d (only_proto c n) t)) p,
+      two_parts Dim.Proto c p (set_and 8 c.proto (single n)) (set_minus 8 c.proto (single n)) (set_parts 8 c.proto (single n) p.proto),
+    )
 
 -- of the pieces of a cube
 pub piece_times : {W : ℕ} (x : Prim_ W) (c : Cube W) (p : Packet) → times (cut_pieces x c) p + times (omit_pieces x c) p ≤ one (holds_cube c p)
-piece_times {W} (Prim_.Src set) c p =
-    let s = set_and W c.src set in let t = set_minus W c.src set in
-    both_times (record c { src = s }) (record c { src = t }) c p (split_src c p s t (set_parts W c.src set p.src))
-piece_times {W} (Prim_.Dst set) c p =
-    let s = set_and W c.dst set in let t = set_minus W c.dst set in
-    both_times (record c { dst = s }) (record c { dst = t }) c p (split_dst c p s t (set_parts W c.dst set p.dst))
-piece_times (Prim_.InName by) c p =
-    let h = split_in_name c p (has_name_some (cut_of c.in_name by) p.in_name) (has_name_some (cut_not_of c.in_name by) p.in_name) (name_parts c.in_name by p.in_name) in
-    let e = in_times c (cut_of c.in_name by) p in let f = in_times c (cut_not_of c.in_name by) p in omega (arith, e, f, h)
-piece_times (Prim_.OutName by) c p =
-    let h = split_out_name c p (has_name_some (cut_of c.out_name by) p.out_name) (has_name_some (cut_not_of c.out_name by) p.out_name) (name_parts c.out_name by p.out_name) in
-    let e = out_times c (cut_of c.out_name by) p in let f = out_times c (cut_not_of c.out_name by) p in omega (arith, e, f, h)
-piece_times (Prim_.Proto proto) c p =
-    let s = set_and 8 c.proto (single proto) in let t = set_minus 8 c.proto (single proto) in
-    both_times (record c { proto = s }) (record c { proto = t }) c p (split_proto c p s t (set_parts 8 c.proto (single proto) p.proto))
-piece_times {W} (Prim_.SrcPorts ports) c p =
-    let s = set_and 8 c.proto (single ports.proto) in let t = set_minus 8 c.proto (single ports.proto) in
-    let d : Cube W = record c { proto = s } in
-    let q = set_and 16 c.sport ports.set in let r = set_minus 16 c.sport ports.set in
-    three_times (record d { sport = q }) (record c { proto = t }) (record d { sport = r }) d c p
-    (split_proto c p s t (set_parts 8 c.proto (single ports.proto) p.proto)) (split_sport d p q r (set_parts 16 c.sport ports.set p.sport))
-piece_times {W} (Prim_.DstPorts ports) c p =
-    let s = set_and 8 c.proto (single ports.proto) in let t = set_minus 8 c.proto (single ports.proto) in
-    let d : Cube W = record c { proto = s } in
-    let q = set_and 16 c.dport ports.set in let r = set_minus 16 c.dport ports.set in
-    three_times (record d { dport = q }) (record c { proto = t }) (record d { dport = r }) d c p
-    (split_proto c p s t (set_parts 8 c.proto (single ports.proto) p.proto)) (split_dport d p q r (set_parts 16 c.dport ports.set p.dport))
-piece_times {W} (Prim_.Flags mask comp) c p =
-    let s = set_and 8 c.proto (single 6) in let t = set_minus 8 c.proto (single 6) in
-    let d : Cube W = record c { proto = s } in
-    let q = bit_and c.flags (flags_where mask comp 64) in let r = bit_xor c.flags (bit_and c.flags (flags_where mask comp 64)) in
-    three_times (record d { flags = q }) (record c { proto = t }) (record d { flags = r }) d c p
-    (split_proto c p s t (set_parts 8 c.proto (single 6) p.proto)) (split_flags d p q r (bit_parts c.flags (flags_where mask comp 64) p.flags))
-piece_times (Prim_.State states) c p =
-    let s = bit_and c.state states in let t = bit_xor c.state (bit_and c.state states) in
-    both_times (record c { state = s }) (record c { state = t }) c p (split_state c p s t (bit_parts c.state states p.state))
+piece_times {W} (Prim_.Src set) c p = kept_parts Dim.Src c p _ _ (set_parts W c.src set p.src)
+piece_times {W} (Prim_.Dst set) c p = kept_parts Dim.Dst c p _ _ (set_parts W c.dst set p.dst)
+piece_times (Prim_.InName by) c p = let h = name_times Dim.InName c (λ s. record c { in_name = s }) (cut_of c.in_name by) (cut_not_of c.in_name by) p.in_name p (λ s. put_holds Dim.InName c s p) (name_parts c.in_name by p.in_name) in
+    omega (arith, h, ap (λ l. times l p) (in_some c (cut_of c.in_name by)), ap (λ l. times l p) (in_some c (cut_not_of c.in_name by)))
+piece_times (Prim_.OutName by) c p = let h = name_times Dim.OutName c (λ s. record c { out_name = s }) (cut_of c.out_name by) (cut_not_of c.out_name by) p.out_name p (λ s. put_holds Dim.OutName c s p) (name_parts c.out_name by p.out_name) in
+    omega (arith, h, ap (λ l. times l p) (out_some c (cut_of c.out_name by)), ap (λ l. times l p) (out_some c (cut_not_of c.out_name by)))
+piece_times (Prim_.Proto proto) c p = kept_parts Dim.Proto c p _ _ (set_parts 8 c.proto (single proto) p.proto)
+piece_times (Prim_.SrcPorts ports) c p = proto_times Dim.Sport c ports.proto p _ _ (set_parts 16 c.sport ports.set p.sport)
+piece_times (Prim_.DstPorts ports) c p = proto_times Dim.Dport c ports.proto p _ _ (set_parts 16 c.dport ports.set p.dport)
+piece_times (Prim_.Flags mask comp) c p = proto_times Dim.Flags c 6 p _ _ (bit_parts c.flags (flags_where mask comp 64) p.flags)
+piece_times (Prim_.State states) c p = kept_parts Dim.State c p _ _ (bit_parts c.state states p.state)
 piece_times Prim_.Always c p = let e = times_kept c p in omega (arith, e)
 
 -- of the lists that two cuts leave

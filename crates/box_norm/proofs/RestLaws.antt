@@ -14,9 +14,8 @@ use Rattle.box_norm.specs.Cubes.{holds_cube, is_none, kept}
 use Rattle.box_norm.specs.Disjoint.{AreDisjoint, AreAllApart}
 use Rattle.box_norm.specs.Overlaps.{names_common, cut_by_each, names_less, both_of, and_names, to_in_name, to_out_name, to_src, to_dst, to_proto, to_sport, to_dport, to_flags, with_in_names, with_out_names, minus_common, minus_of}
 use Rattle.box_norm.proofs.OverlapLaws.{common_names}
-use Rattle.box_norm.proofs.PartLaws.{one, times, times_append, times_cons, times_kept, split_src, split_dst, split_proto, split_sport, split_dport, split_flags, split_state, set_parts, bit_parts}
-use Rattle.box_norm.proofs.Stages.{upto1, upto2, upto3, upto4, upto5, upto6, upto7, upto8}
-use Rattle.box_norm.proofs.PieceLaws.{factor1, past_in, past_out}
+use Rattle.box_norm.proofs.Dims.{Dim, Value, has_value, put, fits_in, fits_else, holds_by, put_holds}
+use Rattle.box_norm.proofs.PartLaws.{one, times, times_append, times_cons, times_kept, two_parts, set_parts, bit_parts}
 
 -- in how many of the sets the name is
 abbrev pub sum_has : List NameSet → List ℕ → ℕ
@@ -82,64 +81,38 @@ none_and : (x : Bool) → one (x && false) ≡ 0
 none_and true = refl
 none_and false = refl
 
-in_sum : {W : ℕ} (c : Cube W) (p : Packet) (r : Bool) → past_in c p ≡ r → (ss : List NameSet) → times (with_in_names c ss) p ≡ cond r (sum_has ss p.in_name) 0
-in_sum c p true e [] = refl
-in_sum c p false e [] = refl
-in_sum c p true e (s ∷ ss) =
-    let ih = in_sum c p true e ss in
-    let f = times_append (kept (record c { in_name = s })) (with_in_names c ss) p in
-    let g : times (kept (record c { in_name = s })) p ≡ one (has_name s p.in_name) = times_kept (record c { in_name = s }) p ∙ ap (λ r. one (has_name s p.in_name && r)) e ∙ one_and (has_name s p.in_name) in
-    omega (arith, ih, f, g)
-in_sum c p false e (s ∷ ss) =
-    let ih = in_sum c p false e ss in
-    let f = times_append (kept (record c { in_name = s })) (with_in_names c ss) p in
-    let g : times (kept (record c { in_name = s })) p ≡ 0 = times_kept (record c { in_name = s }) p ∙ ap (λ r. one (has_name s p.in_name && r)) e ∙ none_and (has_name s p.in_name) in
-    omega (arith, ih, f, g)
-
-out_sum : {W : ℕ} (c : Cube W) (p : Packet) (q r : Bool) → factor1 c p ≡ q → past_out c p ≡ r → (ss : List NameSet) → times (with_out_names c ss) p ≡ cond (q && r) (sum_has ss p.out_name) 0
-out_sum c p true true d e [] = refl
-out_sum c p true false d e [] = refl
-out_sum c p false r d e [] = refl
-out_sum c p true true d e (s ∷ ss) =
-    let ih = out_sum c p true true d e ss in
-    let f = times_append (kept (record c { out_name = s })) (with_out_names c ss) p in
-    let g : times (kept (record c { out_name = s })) p ≡ one (has_name s p.out_name) =
-    times_kept (record c { out_name = s }) p ∙ ap (λ q. one (q && (has_name s p.out_name && past_out c p))) d ∙ ap (λ r. one (has_name s p.out_name && r)) e ∙ one_and (has_name s p.out_name) in
-    omega (arith, ih, f, g)
-out_sum c p true false d e (s ∷ ss) =
-    let ih = out_sum c p true false d e ss in
-    let f = times_append (kept (record c { out_name = s })) (with_out_names c ss) p in
-    let g : times (kept (record c { out_name = s })) p ≡ 0 =
-    times_kept (record c { out_name = s }) p ∙ ap (λ q. one (q && (has_name s p.out_name && past_out c p))) d ∙ ap (λ r. one (has_name s p.out_name && r)) e ∙ none_and (has_name s p.out_name) in
-    omega (arith, ih, f, g)
-out_sum c p false r d e (s ∷ ss) =
-    let ih = out_sum c p false r d e ss in
-    let f = times_append (kept (record c { out_name = s })) (with_out_names c ss) p in
-    let g : times (kept (record c { out_name = s })) p ≡ 0 = times_kept (record c { out_name = s }) p ∙ ap (λ q. one (q && (has_name s p.out_name && past_out c p))) d in
-    omega (arith, ih, f, g)
+with_sum : {W : ℕ} (d : Dim) (c : Cube W) (with : NameSet → Cube W) (n : List ℕ) (p : Packet) → ((s : NameSet) → holds_cube (with s) p ≡ (has_name s n && fits_else d c p)) →
+    (r : Bool) → fits_else d c p ≡ r → (ss : List NameSet) → times (flat_map (λ s. kept (with s)) ss) p ≡ cond r (sum_has ss n) 0
+with_sum d c with n p e true g [] = refl
+with_sum d c with n p e false g [] = refl
+with_sum d c with n p e true g (s ∷ ss) =
+    let is : times (kept (with s)) p ≡ one (has_name s n) = times_kept (with s) p ∙ ap one (e s) ∙ ap (λ r. one (has_name s n && r)) g ∙ one_and (has_name s n) in
+    omega (arith, with_sum d c with n p e true g ss, times_append (kept (with s)) (flat_map (λ s. kept (with s)) ss) p, is)
+with_sum d c with n p e false g (s ∷ ss) =
+    let is : times (kept (with s)) p ≡ 0 = times_kept (with s) p ∙ ap one (e s) ∙ ap (λ r. one (has_name s n && r)) g ∙ none_and (has_name s n) in
+    omega (arith, with_sum d c with n p e false g ss, times_append (kept (with s)) (flat_map (λ s. kept (with s)) ss) p, is)
 
 within_r : (r : Bool) (k : ℕ) (x y : Bool) → k + one y ≤ one x → cond r k 0 + one (y && r) ≤ one (x && r)
 within_r true k x y h = omega (arith, one_and x, one_and y, h)
 within_r false k x y h = omega (arith, none_and x, none_and y, h)
 
-within_q : (q r : Bool) (k : ℕ) (x y : Bool) → k + one y ≤ one x → cond (q && r) k 0 + one (q && (y && r)) ≤ one (q && (x && r))
-within_q true r k x y h = within_r r k x y h
-within_q false r k x y h = omega arith
+with_split : {W : ℕ} (d : Dim) (c : Cube W) (with : NameSet → Cube W) (n : List ℕ) (p : Packet) → ((s : NameSet) → holds_cube (with s) p ≡ (has_name s n && fits_else d c p)) →
+    (ss : List NameSet) (s : NameSet) → sum_has ss n + one (has_name s n) ≤ one (fits_in d c p) → times (flat_map (λ s. kept (with s)) ss) p + one (holds_cube (with s) p) ≤ one (holds_cube c p)
+with_split d c with n p e ss s h =
+    omega (arith, with_sum d c with n p e (fits_else d c p) refl ss, ap one (e s), ap one (holds_by d c p), within_r (fits_else d c p) (sum_has ss n) (fits_in d c p) (has_name s n) h)
 
-in_split : {W : ℕ} (c : Cube W) (p : Packet) (ss : List NameSet) (s : NameSet) → sum_has ss p.in_name + one (has_name s p.in_name) ≤ one (has_name c.in_name p.in_name) →
-    times (with_in_names c ss) p + one (holds_cube (record c { in_name = s }) p) ≤ one (holds_cube c p)
-in_split c p ss s h = let e = in_sum c p (past_in c p) refl ss in let f = within_r (past_in c p) (sum_has ss p.in_name) (has_name c.in_name p.in_name) (has_name s p.in_name) h in omega (arith, e, f)
-
-out_split : {W : ℕ} (c : Cube W) (p : Packet) (ss : List NameSet) (s : NameSet) → sum_has ss p.out_name + one (has_name s p.out_name) ≤ one (has_name c.out_name p.out_name) →
-    times (with_out_names c ss) p + one (holds_cube (record c { out_name = s }) p) ≤ one (holds_cube c p)
-out_split c p ss s h =
-    let e = out_sum c p (factor1 c p) (past_out c p) refl refl ss in
-    let f = within_q (factor1 c p) (past_out c p) (sum_has ss p.out_name) (has_name c.out_name p.out_name) (has_name s p.out_name) h in
-    omega (arith, e, f)
+-- so far: the packet is in no more of the pieces and the front than of `a`
+record Once {W : ℕ} (a : Cube W) (p : Packet) (pieces : List (Cube W)) (front : Cube W) : Type 0 where
+  pub once : times pieces p + one (holds_cube front p) ≤ one (holds_cube a p)
 
 -- one dimension more
-more : {W : ℕ} (upto : List (Cube W)) (piece : Cube W) (x y z : ℕ) (p : Packet) → times upto p + x ≤ z → y + one (holds_cube piece p) ≤ x → times (upto ++ kept piece) p + y ≤ z
-more upto piece x y z p h k = let e = times_append upto (kept piece) p in let f = times_kept piece p in omega (arith, e, f, h, k)
+module _ {W : ℕ} (a : Cube W) (p : Packet) (pieces : List (Cube W)) (front : Cube W) (so : Once a p pieces front) where
+  next : (d : Dim) (less common : Value d) → one (has_value d common p) + one (has_value d less p) ≤ one (fits_in d front p) → Once a p (pieces ++ kept (put d front less)) (put d front common)
+  next d less common h = record { once = omega (arith, so.once, two_parts d front p common less h, times_append pieces (kept (put d front less)) p, times_kept (put d front less) p) }
+
+  next_names : (d : Dim) (with : NameSet → Cube W) (n : List ℕ) → ((s : NameSet) → holds_cube (with s) p ≡ (has_name s n && fits_else d front p)) →
+      (ss : List NameSet) (s : NameSet) → sum_has ss n + one (has_name s n) ≤ one (fits_in d front p) → Once a p (pieces ++ flat_map (λ s. kept (with s)) ss) (with s)
+  next_names d with n e ss s h = record { once = omega (arith, so.once, with_split d front with n p e ss s h, times_append pieces (flat_map (λ s. kept (with s)) ss) p) }
 
 module _ {W : ℕ} (a b : Cube W) (i o : NameSet) (p : Packet)
     (e : sum_has (names_less a.in_name b.in_name) p.in_name + one (has_name i p.in_name) ≤ one (has_name a.in_name p.in_name))
@@ -147,46 +120,21 @@ module _ {W : ℕ} (a b : Cube W) (i o : NameSet) (p : Packet)
   abbrev m : Cube W
   m = both_of a b i o
 
-  abbrev h : ℕ
-  h = one (holds_cube a p)
+  begun : Once a p [] a
+  begun = record { once = omega arith }
 
-  stage1 : times (upto1 a b m) p + one (holds_cube (to_in_name m a) p) ≤ h
-  stage1 = in_split a p (names_less a.in_name b.in_name) i e
-
-  stage2 : times (upto2 a b m) p + one (holds_cube (to_out_name m a) p) ≤ h
-  stage2 =
-      let k = times_append (upto1 a b m) (with_out_names (to_in_name m a) (names_less a.out_name b.out_name)) p in
-      let l = out_split (to_in_name m a) p (names_less a.out_name b.out_name) o f in
-      let s = stage1 in
-      omega (arith, k, l, s)
-
-  stage3 : times (upto3 a b m) p + one (holds_cube (to_src m a) p) ≤ h
-  stage3 = more (upto2 a b m) (record (to_out_name m a) { src = set_minus W a.src b.src }) (one (holds_cube (to_out_name m a) p)) (one (holds_cube (to_src m a) p)) h p stage2
-      (split_src (to_out_name m a) p m.src (set_minus W a.src b.src) (set_parts W a.src b.src p.src))
-
-  stage4 : times (upto4 a b m) p + one (holds_cube (to_dst m a) p) ≤ h
-  stage4 = more (upto3 a b m) (record (to_src m a) { dst = set_minus W a.dst b.dst }) (one (holds_cube (to_src m a) p)) (one (holds_cube (to_dst m a) p)) h p stage3
-      (split_dst (to_src m a) p m.dst (set_minus W a.dst b.dst) (set_parts W a.dst b.dst p.dst))
-
-  stage5 : times (upto5 a b m) p + one (holds_cube (to_proto m a) p) ≤ h
-  stage5 = more (upto4 a b m) (record (to_dst m a) { proto = set_minus 8 a.proto b.proto }) (one (holds_cube (to_dst m a) p)) (one (holds_cube (to_proto m a) p)) h p stage4
-      (split_proto (to_dst m a) p m.proto (set_minus 8 a.proto b.proto) (set_parts 8 a.proto b.proto p.proto))
-
-  stage6 : times (upto6 a b m) p + one (holds_cube (to_sport m a) p) ≤ h
-  stage6 = more (upto5 a b m) (record (to_proto m a) { sport = set_minus 16 a.sport b.sport }) (one (holds_cube (to_proto m a) p)) (one (holds_cube (to_sport m a) p)) h p stage5
-      (split_sport (to_proto m a) p m.sport (set_minus 16 a.sport b.sport) (set_parts 16 a.sport b.sport p.sport))
-
-  stage7 : times (upto7 a b m) p + one (holds_cube (to_dport m a) p) ≤ h
-  stage7 = more (upto6 a b m) (record (to_sport m a) { dport = set_minus 16 a.dport b.dport }) (one (holds_cube (to_sport m a) p)) (one (holds_cube (to_dport m a) p)) h p stage6
-      (split_dport (to_sport m a) p m.dport (set_minus 16 a.dport b.dport) (set_parts 16 a.dport b.dport p.dport))
-
-  stage8 : times (upto8 a b m) p + one (holds_cube (to_flags m a) p) ≤ h
-  stage8 = more (upto7 a b m) (record (to_dport m a) { flags = bit_xor a.flags (bit_and a.flags b.flags) }) (one (holds_cube (to_dport m a) p)) (one (holds_cube (to_flags m a) p)) h p stage7
-      (split_flags (to_dport m a) p m.flags (bit_xor a.flags (bit_and a.flags b.flags)) (bit_parts a.flags b.flags p.flags))
-
-  pub pieces_once : times (minus_common a b (Some m)) p + one (holds_cube m p) ≤ h
-  pieces_once = more (upto8 a b m) (record (to_flags m a) { state = bit_xor a.state (bit_and a.state b.state) }) (one (holds_cube (to_flags m a) p)) (one (holds_cube m p)) h p stage8
-      (split_state (to_flags m a) p m.state (bit_xor a.state (bit_and a.state b.state)) (bit_parts a.state b.state p.state))
+  pub pieces_once : times (minus_common a b (Some m)) p + one (holds_cube m p) ≤ one (holds_cube a p)
+  pieces_once =
+      let s1 = next_names a p _ _ begun Dim.InName (λ s. record a { in_name = s }) p.in_name (λ s. put_holds Dim.InName a s p) (names_less a.in_name b.in_name) i e in
+      let s2 = next_names a p _ _ s1 Dim.OutName (λ s. record (to_in_name m a) { out_name = s }) p.out_name (λ s. put_holds Dim.OutName (to_in_name m a) s p) (names_less a.out_name b.out_name) o f in
+      let s3 = next a p _ _ s2 Dim.Src (set_minus W a.src b.src) m.src (set_parts W a.src b.src p.src) in
+      let s4 = next a p _ _ s3 Dim.Dst (set_minus W a.dst b.dst) m.dst (set_parts W a.dst b.dst p.dst) in
+      let s5 = next a p _ _ s4 Dim.Proto (set_minus 8 a.proto b.proto) m.proto (set_parts 8 a.proto b.proto p.proto) in
+      let s6 = next a p _ _ s5 Dim.Sport (set_minus 16 a.sport b.sport) m.sport (set_parts 16 a.sport b.sport p.sport) in
+      let s7 = next a p _ _ s6 Dim.Dport (set_minus 16 a.dport b.dport) m.dport (set_parts 16 a.dport b.dport p.dport) in
+      let s8 = next a p _ _ s7 Dim.Flags (bit_xor a.flags (bit_and a.flags b.flags)) m.flags (bit_parts a.flags b.flags p.flags) in
+      let s9 = next a p _ _ s8 Dim.State (bit_xor a.state (bit_and a.state b.state)) m.state (bit_parts a.state b.state p.state) in
+      s9.once
 
 one_most : (b : Bool) → one b ≤ 1
 one_most true = omega arith

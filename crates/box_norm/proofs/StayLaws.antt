@@ -2,6 +2,7 @@
 use Rattle.std.proofs.Common.{◌≡◌, ℕ, ◌<◌, List, [], ◌∷◌, ◌++◌, Bool, true, false, not, Option, None, Some, refl, sym, subst, map, arith, inl, inr, ◌⊎◌, bit_and, bit_xor}
 use Rattle.std.specs.Prelude.{if◌then◌else◌, Contains}
 use Rattle.std.specs.List.{AllByRecursion, filter}
+use Rattle.basics.proofs.Lists.{each_filter, each_left, each_right}
 use Rattle.std.proofs.lemmas.Nat.{xor_lt, and_le_l}
 use Rattle.std.proofs.lemmas.List.Elements.{Contains-append_right}
 use Rattle.match_expr.specs.declared.expr.Expr.{Expr, map-Expr, roll-Expr}
@@ -26,14 +27,6 @@ use Rattle.box_norm.proofs.RegularLaws.{kept_all, all_append}
 
 abbrev pub AllIn : List Pattern → List Pattern → Type 0
 AllIn ps qs = AllByRecursion (Contains ps) qs
-
-all_left : {X : Type 0} (P : X → Type 0) (a b : List X) → AllByRecursion P (a ++ b) → AllByRecursion P a
-all_left P [] b h = tt
-all_left P (x ∷ a) b h = (h.0, all_left P a b h.1)
-
-all_right : {X : Type 0} (P : X → Type 0) (a b : List X) → AllByRecursion P (a ++ b) → AllByRecursion P b
-all_right P [] b h = h
-all_right P (x ∷ a) b h = all_right P a b h.1
 
 pub all_map : {X : Type 0} (P Q : X → Type 0) → ((x : X) → P x → Q x) → (xs : List X) → AllByRecursion P xs → AllByRecursion Q xs
 all_map P Q f [] h = tt
@@ -79,8 +72,8 @@ module _ {W : ℕ} (Q : Cube W → Type 0) (ps : List Pattern)
   every_stays : (es : List ((e : E) × Kept e)) → AllIn ps (joined (map (patterns_of {W = W}) (map (λ e. e.0) es))) → AllStay (map (cuts_by {W = W}) (map (λ e. e.0) es))
   every_stays [] h = tt
   every_stays (e ∷ es) h = (
-    e.1 (all_left (Contains ps) (patterns_of {W = W} e.0) (joined (map (patterns_of {W = W}) (map (λ e. e.0) es))) h),
-    every_stays es (all_right (Contains ps) (patterns_of {W = W} e.0) (joined (map (patterns_of {W = W}) (map (λ e. e.0) es))) h),
+    e.1 (each_left (Contains ps) (patterns_of {W = W} e.0) (joined (map (patterns_of {W = W}) (map (λ e. e.0) es))) h),
+    every_stays es (each_right (Contains ps) (patterns_of {W = W} e.0) (joined (map (patterns_of {W = W}) (map (λ e. e.0) es))) h),
   )
 
   abbrev Layer : Expr-F (Prim_ W) E → Type 0
@@ -104,14 +97,6 @@ abbrev OnName : (NameSet → Type 0) → Option NameSet → Type 0
 OnName N None = Unit {0}
 OnName N (Some s) = N s
 
-all_if : {X : Type 0} (P : X → Type 0) (b : Bool) (x : X) (xs : List X) → P x → AllByRecursion P xs → AllByRecursion P (if b then x ∷ xs else xs)
-all_if P true x xs h k = (h, k)
-all_if P false x xs h k = k
-
-all_filter : {X : Type 0} (P : X → Type 0) (keep : X → Bool) (xs : List X) → AllByRecursion P xs → AllByRecursion P (filter keep xs)
-all_filter P keep [] h = tt
-all_filter P keep (x ∷ xs) h = all_if P (keep x) x (filter keep xs) h.0 (all_filter P keep xs h.1)
-
 module _ (ps : List Pattern) (s : NameSet) (by : Pattern) (h : IsOf ps s) (k : Contains ps by) where
   narrow_of : (u : Bool) → ((if u then by else s.base) ≡ Pattern.Prefix []) ⊎ Contains ps (if u then by else s.base)
   narrow_of true = inr k
@@ -120,7 +105,7 @@ module _ (ps : List Pattern) (s : NameSet) (by : Pattern) (h : IsOf ps s) (k : C
   under_of : (v : Bool) (base : Pattern) → ((base ≡ Pattern.Prefix []) ⊎ Contains ps base) →
       OnName (IsOf ps) (if v then None else Some (record { base = base; excluded = filter (λ p. have_common p base) s.excluded }))
   under_of true base b = tt
-  under_of false base b = record { base = b; excluded = all_filter (Contains ps) (λ p. have_common p base) s.excluded h.excluded }
+  under_of false base b = record { base = b; excluded = each_filter (Contains ps) (λ p. have_common p base) s.excluded h.excluded }
 
   common_of : (c : Bool) → OnName (IsOf ps) (if c then cut_under (narrower s.base by) s.excluded else None)
   common_of true = under_of (some_covers s.excluded (narrower s.base by)) (narrower s.base by) (narrow_of (covers s.base by))
@@ -133,7 +118,7 @@ module _ (ps : List Pattern) (s : NameSet) (by : Pattern) (h : IsOf ps s) (k : C
   without_of true = h
   without_of false = record {
     base = h.base;
-    excluded = all_append (Contains ps) (filter (λ p. not (covers by p)) s.excluded) (by ∷ []) (all_filter (Contains ps) (λ p. not (covers by p)) s.excluded h.excluded) (k, tt);
+    excluded = all_append (Contains ps) (filter (λ p. not (covers by p)) s.excluded) (by ∷ []) (each_filter (Contains ps) (λ p. not (covers by p)) s.excluded h.excluded) (k, tt);
   }
 
   without_common_of : (c : Bool) → OnName (IsOf ps) (if c then (if some_covers s.excluded by then Some s else Some (record { base = s.base; excluded = filter (λ p. not (covers by p)) s.excluded ++ by ∷ [] })) else Some s)
@@ -221,8 +206,8 @@ module _ (S : ℕ → Type 0) (N : NameSet → Type 0) (ps : List Pattern)
   normal_fits W f [] h = tt
   normal_fits W f (rule ∷ rules) h =
       all_append (λ (r : SimpleRule W). Fits S N r.cube) (with_verdict rule.accept ((cuts_by {W = W} rule.expr).keep (whole_of W ∷ [])).list) (normal_of rules)
-      (verdict_fits rule.accept ((cuts_by {W = W} rule.expr).keep (whole_of W ∷ [])).list ((cuts_fit W rule.expr (all_left (Contains ps) (patterns_of {W = W} rule.expr) (rule_patterns rules) h)).keep (whole_of W ∷ []) (f, tt)))
-      (normal_fits W f rules (all_right (Contains ps) (patterns_of {W = W} rule.expr) (rule_patterns rules) h))
+      (verdict_fits rule.accept ((cuts_by {W = W} rule.expr).keep (whole_of W ∷ [])).list ((cuts_fit W rule.expr (each_left (Contains ps) (patterns_of {W = W} rule.expr) (rule_patterns rules) h)).keep (whole_of W ∷ []) (f, tt)))
+      (normal_fits W f rules (each_right (Contains ps) (patterns_of {W = W} rule.expr) (rule_patterns rules) h))
 
 -- the bits of states alone
 abbrev Low : ℕ → Type 0

@@ -1,5 +1,6 @@
 -- `cut` and `cut_not`: the list of each, and the longest list that is returned on the way.
 use Rattle.std.specs.Prelude.{ℕ, ◌≤◌, ◌<◌, ◌≡◌, List, [], ◌∷◌, ◌++◌, length, max, Result, Ok, Err}
+use Rattle.limits.specs.declared.TheConstants.{MOST_CUBES}
 use Rattle.match_expr.specs.declared.expr.Expr.{Expr}
 use Rattle.match_expr.specs.declared.expr.Expr.TheOpen.{Expr-F}
 use Rattle.match_expr.specs.declared.expr.Expr.TheFolds.{fold-Expr}
@@ -48,7 +49,7 @@ cuts_by {W} = fold-Expr (Prim_ W) (Cuts W) (cuts_step {W = W})
 
 -- what a cut answers for this work
 abbrev pub Answers : {W : ℕ} → Work W → Result (List (Cube W)) CubeFault → Type 0
-Answers work (Ok list) = (list ≡ work.list) × (work.longest ≤ 16384)
-Answers work (Err CubeFault.Boxes) = 16384 < work.longest
+Answers work (Ok list) = (list ≡ work.list) × (work.longest ≤ MOST_CUBES)
+Answers work (Err CubeFault.Boxes) = MOST_CUBES < work.longest
 Answers work (Err CubeFault.Rules) = ⊥
 Answers work (Err CubeFault.Memory) = Unit {0}

@@ -7,6 +7,7 @@ use match_expr::List;
 use name_set::NameSet;
 use primitives::Packet;
 use std::alloc::{AllocError, Global};
+use thiserror::Error;
 
 /// Packets, by a set of values for each of nine dimensions. A packet is in the cube where each of its fields is in the
 /// set of its name. W is the number of bits of an address, 32 or 128.
@@ -33,13 +34,16 @@ pub struct Cube<const W: u32> {
 }
 
 /// Why there is no list.
-#[derive(Debug, Drop)]
+#[derive(Debug, Drop, Error)]
 pub enum CubeFault {
-    /// A list of more than 16,384 cubes came up.
+    /// A list of more than `MOST_CUBES` cubes came up.
+    #[error("too many boxes")]
     Boxes,
-    /// The simple rules are more than 131,072.
+    /// The simple rules are more than `MOST_RULES`.
+    #[error("too many rules")]
     Rules,
     /// There was no memory left.
+    #[error("out of memory")]
     Memory,
 }
 
@@ -88,7 +92,17 @@ impl<const W: u32> Cube<W> {
     pub fn copy(&self, alloc: Global) -> Result<Cube<W>, AllocError>
         ensures { IfOk result (λ c. c ≡ self.now) }
     {
-        Ok(dims!(alloc, self;))
+        Ok(Cube {
+            in_name: self.in_name.copy(alloc)?,
+            out_name: self.out_name.copy(alloc)?,
+            src: self.src.copy(alloc)?,
+            dst: self.dst.copy(alloc)?,
+            proto: self.proto.copy(alloc)?,
+            sport: self.sport.copy(alloc)?,
+            dport: self.dport.copy(alloc)?,
+            flags: self.flags,
+            state: self.state,
+        })
     }
 }
 

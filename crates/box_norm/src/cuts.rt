@@ -10,12 +10,10 @@ ghost use Rattle.box_norm.specs.Regular.{AreRegular};
 
 use crate::cube::{Cube, CubeFault};
 use crate::pieces::push_pieces;
+use limits::MOST_CUBES;
 use match_expr::{Expr, List};
 use primitives::Prim_;
 use std::alloc::{AllocError, Global};
-
-/// The most cubes that a list may have.
-const LIMIT: usize = 16_384;
 
 /// Copies of the cubes.
 fn cubes_copy<const W: u32>(alloc: Global, list: &[Cube<W>]) -> Result<Vec<Cube<W>>, AllocError>
@@ -41,7 +39,7 @@ fn pieces_where<const W: u32>(
     let mut out = Vec::new(alloc);
     for cube in list {
         push_pieces(alloc, &mut out, cube, x, holds)?;
-        if out.len() > LIMIT {
+        if out.len() > MOST_CUBES {
             return Err(CubeFault::Boxes);
         }
     }
@@ -88,7 +86,7 @@ fn keep_parts<const W: u32>(
             Err(fault) => return Err(fault),
         };
     }
-    if list_now(&kept, list).len() > LIMIT {
+    if list_now(&kept, list).len() > MOST_CUBES {
         return Err(CubeFault::Boxes);
     }
     match kept {
@@ -115,7 +113,7 @@ fn omit_parts<const W: u32>(
             Err(fault) => return Err(fault),
         };
         out = joined(out, more.into_vec())?;
-        if out.len() > LIMIT {
+        if out.len() > MOST_CUBES {
             return Err(CubeFault::Boxes);
         }
         kept = match keep_list(alloc, list_now(&kept, list), part) {

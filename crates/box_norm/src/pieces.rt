@@ -64,7 +64,8 @@ pub fn put_in_name<const W: u32>(
 ) -> Result<(), AllocError>
     ensures { OnOk result (out.new.items ≡ out.old.items ++ kept (record cube.now { in_name = in_name })) }
 {
-    let piece = dims!(alloc, cube; in_name = in_name);
+    let mut piece = cube.copy(alloc)?;
+    piece.in_name = in_name;
     keep(out, piece)
 }
 
@@ -77,7 +78,8 @@ pub fn put_out_name<const W: u32>(
 ) -> Result<(), AllocError>
     ensures { OnOk result (out.new.items ≡ out.old.items ++ kept (record cube.now { out_name = out_name })) }
 {
-    let piece = dims!(alloc, cube; out_name = out_name);
+    let mut piece = cube.copy(alloc)?;
+    piece.out_name = out_name;
     keep(out, piece)
 }
 
@@ -93,7 +95,8 @@ pub fn put_src<const W: u32>(
     if no_range(&src) {
         return Ok(());
     }
-    let piece = dims!(alloc, cube; src = src);
+    let mut piece = cube.copy(alloc)?;
+    piece.src = src;
     keep(out, piece)
 }
 
@@ -109,7 +112,8 @@ pub fn put_dst<const W: u32>(
     if no_range(&dst) {
         return Ok(());
     }
-    let piece = dims!(alloc, cube; dst = dst);
+    let mut piece = cube.copy(alloc)?;
+    piece.dst = dst;
     keep(out, piece)
 }
 
@@ -125,7 +129,8 @@ pub fn put_proto<const W: u32>(
     if no_range(&proto) {
         return Ok(());
     }
-    let piece = dims!(alloc, cube; proto = proto);
+    let mut piece = cube.copy(alloc)?;
+    piece.proto = proto;
     keep(out, piece)
 }
 
@@ -142,7 +147,9 @@ pub fn put_sport<const W: u32>(
     if no_range(&proto) || no_range(&sport) {
         return Ok(());
     }
-    let piece = dims!(alloc, cube; proto = proto, sport = sport);
+    let mut piece = cube.copy(alloc)?;
+    piece.proto = proto;
+    piece.sport = sport;
     keep(out, piece)
 }
 
@@ -159,7 +166,9 @@ pub fn put_dport<const W: u32>(
     if no_range(&proto) || no_range(&dport) {
         return Ok(());
     }
-    let piece = dims!(alloc, cube; proto = proto, dport = dport);
+    let mut piece = cube.copy(alloc)?;
+    piece.proto = proto;
+    piece.dport = dport;
     keep(out, piece)
 }
 
@@ -176,7 +185,9 @@ pub fn put_flags<const W: u32>(
     if no_range(&proto) || flags == 0 {
         return Ok(());
     }
-    let piece = dims!(alloc, cube; proto = proto, flags = flags);
+    let mut piece = cube.copy(alloc)?;
+    piece.proto = proto;
+    piece.flags = flags;
     keep(out, piece)
 }
 
@@ -192,7 +203,8 @@ pub fn put_state<const W: u32>(
     if state == 0 {
         return Ok(());
     }
-    let piece = dims!(alloc, cube; state = state);
+    let mut piece = cube.copy(alloc)?;
+    piece.state = state;
     keep(out, piece)
 }
 

@@ -14,18 +14,16 @@ ghost use Rattle.box_norm.specs.Regular.{AreRegular, EachCube, HasStates, IsRegu
 use crate::cube::{Cube, CubeFault, SimpleRule};
 use crate::cuts::{keep_list, omit_list};
 use interval_set::Set;
+use limits::MOST_RULES;
 use match_expr::{Expr, FlatRule, List};
 use name_set::NameSet;
 use primitives::{Packet, Prim_};
 use std::alloc::{AllocError, Global};
 
-/// The most simple rules that a normal form may have.
-const MOST: usize = 131_072;
-
 /// The packets of the list where the expression holds.
 ///
 /// The parts of `All` cut one after another. At a test each cube is replaced by its pieces, in order, without empty
-/// ones. `CubeFault::Boxes` exactly where a list of more than 16,384 cubes comes up on the way, also one that isn't used
+/// ones. `CubeFault::Boxes` exactly where a list of more than `MOST_CUBES` cubes comes up on the way, also one that isn't used
 /// further; never `CubeFault::Rules`. Cubes that share no packet give cubes that share none, and regular cubes give
 /// regular ones.
 pub fn cut<const W: u32>(
@@ -65,7 +63,7 @@ pub fn cut_list<const W: u32>(
 ///
 /// At `All` those where the first part doesn't hold stand first, then those where it holds and the second doesn't, and so
 /// on. At a negated test of ports or flags each cube gives two pieces: the other protocols, then the test's protocol with
-/// the other ports or flags. `CubeFault::Boxes` exactly where a list of more than 16,384 cubes comes up on the way;
+/// the other ports or flags. `CubeFault::Boxes` exactly where a list of more than `MOST_CUBES` cubes comes up on the way;
 /// never `CubeFault::Rules`. Cubes that share no packet give cubes that share none, and regular cubes give regular ones.
 pub fn cut_not<const W: u32>(
     alloc: Global,
@@ -160,7 +158,7 @@ fn normal_list<const W: u32>(
             Ok(cubes) => cubes.into_vec(),
             Err(fault) => return Err(fault),
         };
-        is_full = is_full || out.len() + cubes.len() > MOST;
+        is_full = is_full || out.len() + cubes.len() > MOST_RULES;
         if !is_full {
             push_rules(&mut out, cubes, rule.accept)?;
         }
@@ -175,7 +173,7 @@ fn normal_list<const W: u32>(
 /// each with the rule's verdict.
 ///
 /// `CubeFault::Boxes` exactly where `cut` answers it for some rule, else `CubeFault::Rules` exactly where the simple
-/// rules are more than 131,072. For each valid packet the first simple rule that holds gives the verdict of the first flat
+/// rules are more than `MOST_RULES`. For each valid packet the first simple rule that holds gives the verdict of the first flat
 /// rule whose expression holds. Each cube is regular, and each pattern in its names, but for a base of every name, stands
 /// in a test of the rules.
 pub fn normal<const W: u32>(

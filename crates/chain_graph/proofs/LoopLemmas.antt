@@ -7,7 +7,8 @@ use Rattle.fw_rule.specs.declared.rule.Dump.{Dump}
 use Rattle.fw_rule.specs.Calls.{Reaches, Here, Over}
 use Rattle.fw_rule.proofs.Ends.{append}
 use Rattle.chain_graph.specs.Faults.{IsLoop}
-use Rattle.chain_graph.specs.Marks.{MarksAre, NeverRises, IsCalled, AreRulesOf}
+use Rattle.chain_graph.specs.Marks.{MarksAre, AreRulesOf}
+use Rattle.chain_graph.specs.inner.Spreading.{NeverRises, IsCalled}
 use Rattle.chain_graph.proofs.Marking.{called_by}
 
 module _ {P : Type 0} (dump : Dump P) where

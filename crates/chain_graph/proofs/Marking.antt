@@ -1,5 +1,5 @@
 -- How marks spread over calls.
-use Rattle.std.specs.Prelude.{ℕ, zero, suc, ◌+◌, ◌-◌, ◌<◌, ◌≤◌, ◌≡◌, ◌⊎◌, Bool, true, false, not, cond, List, [], ◌∷◌, ◌++◌, length, take, Some, get_or, Contains, refl}
+use Rattle.std.specs.Prelude.{ℕ, zero, suc, ◌+◌, ◌-◌, ◌<◌, ◌≤◌, ◌≡◌, ◌⊎◌, Bool, true, false, not, cond, List, [], ◌∷◌, ◌++◌, length, take, None, Some, get_or, Contains, refl}
 use Rattle.std.specs.List.{count_by}
 use Rattle.std.proofs.Common.{arith, subst, sym, ap, ◌∙◌, inl, inr}
 use Rattle.std.proofs.Math.ListN.{set, replicate}
@@ -7,15 +7,15 @@ use Rattle.std.proofs.lemmas.List.{take_all, take-append-le, take_more, get_or-s
 use Rattle.std.proofs.lemmas.List.Sums.{sum_by-set}
 use Rattle.std.proofs.lemmas.Bool.{cases_eq}
 use Rattle.std.proofs.lemmas.List.Elements.{Contains-push_cases, Contains-push, Contains-append_left}
-use Rattle.fw_rule.specs.declared.rule.Action.{Action}
 use Rattle.fw_rule.specs.declared.rule.Rule.{Rule}
 use Rattle.fw_rule.specs.declared.rule.Chain.{Chain}
 use Rattle.fw_rule.specs.declared.rule.Dump.{Dump}
-use Rattle.fw_rule.specs.Calls.{Calls, Reaches, Here, Over}
+use Rattle.fw_rule.specs.Calls.{target_of, Calls, Reaches, Here, Over}
 use Rattle.fw_rule.proofs.Ends.{append}
 use Rattle.chain_graph.specs.Paths.{CallsNameChains}
 use Rattle.chain_graph.specs.Faults.{ReachesByCall}
-use Rattle.chain_graph.specs.Marks.{IsMarked, MarksAre, Spread, IsCalled, AreRulesOf}
+use Rattle.chain_graph.specs.Marks.{IsMarked, MarksAre, AreRulesOf}
+use Rattle.chain_graph.specs.inner.Spreading.{Spread, IsCalled}
 
 -- nothing of an empty kind is marked
 pub nothing : (Kind : ℕ → Type 0) (m : List Bool) (t : List ℕ) → ((c : ℕ) → Kind c → ⊥) → Spread Kind m t m t
@@ -79,6 +79,9 @@ newly chain m t h e = record {
   fewer = fewer_left m t chain h e;
 }
 
+pub same_target : (a b : ℕ) → Some a ≡ Some b → a ≡ b
+same_target a b e = cc
+
 module _ {P : Type 0} (rules : List (Rule P)) (i : ℕ) (rule : Rule P) (h : i < length rules) (is : rule ≡ get_or rules i rule) where
   with_rule : take (i + 1) rules ≡ take i rules ++ rule ∷ []
   with_rule = take_more rules i rule h ∙ ap (λ (z : Rule P). take i rules ++ z ∷ []) (sym is)
@@ -86,30 +89,31 @@ module _ {P : Type 0} (rules : List (Rule P)) (i : ℕ) (rule : Rule P) (h : i <
   pub called_before : (c : ℕ) → IsCalled (take i rules) c → IsCalled (take (i + 1) rules) c
   called_before c q = (q.0, subst (λ (z : List (Rule P)). Contains z q.0) (sym with_rule) (Contains-append_left (take i rules) (rule ∷ []) q.0 q.1), q.2)
 
-  pub called_here : (c : ℕ) → rule.action ≡ Action.Call c → IsCalled (take (i + 1) rules) c
+  pub called_here : (c : ℕ) → target_of rule.action ≡ Some c → IsCalled (take (i + 1) rules) c
   called_here c e = (rule, subst (λ (z : List (Rule P)). Contains z rule) (sym with_rule) (Contains-push (take i rules) rule), e)
 
-  pub called_cases : (c : ℕ) → IsCalled (take (i + 1) rules) c → IsCalled (take i rules) c ⊎ (rule.action ≡ Action.Call c)
+  pub called_cases : (c : ℕ) → IsCalled (take (i + 1) rules) c → IsCalled (take i rules) c ⊎ (target_of rule.action ≡ Some c)
   called_cases c q = elim (Contains-push_cases (take i rules) rule q.0 (subst (λ (z : List (Rule P)). Contains z q.0) with_rule q.1)) [
     | inl x ↦ inl (q.0, x, q.2)
-    | inr e ↦ inr (ap (λ (z : Rule P). z.action) e ∙ q.2)
+    | inr e ↦ inr (ap (λ (z : Rule P). target_of z.action) e ∙ q.2)
   ]
 
+  -- a rule that leads nowhere leads to no chain
+  pub no_target : (c : ℕ) → target_of rule.action ≡ None → target_of rule.action ≡ Some c → ⊥
+  no_target c none e = let same : None ≡ Some c = sym none ∙ e in cc
+
   -- a rule that calls no chain spreads nothing
-  pub no_call : (m0 : List Bool) (t0 : List ℕ) (m : List Bool) (t : List ℕ) → ((k : ℕ) → rule.action ≡ Action.Call k → ⊥) → Spread (IsCalled (take i rules)) m0 t0 m t →
+  pub no_call : (m0 : List Bool) (t0 : List ℕ) (m : List Bool) (t : List ℕ) → target_of rule.action ≡ None → Spread (IsCalled (take i rules)) m0 t0 m t →
       Spread (IsCalled (take (i + 1) rules)) m0 t0 m t
   no_call m0 t0 m t none s = both (IsCalled (take i rules)) (λ c. ⊥) (IsCalled (take (i + 1) rules)) m0 t0 m t m t called_before (λ c x. absurd x)
-      (λ c q. elim (called_cases c q) [ inl x ↦ inl x | inr e ↦ absurd (none c e) ]) s (nothing (λ c. ⊥) m t (λ c x. x))
+      (λ c q. elim (called_cases c q) [ inl x ↦ inl x | inr e ↦ absurd (no_target c none e) ]) s (nothing (λ c. ⊥) m t (λ c x. x))
 
   -- a rule that calls a chain spreads to it
-  pub one_call : (m0 : List Bool) (t0 : List ℕ) (m : List Bool) (t : List ℕ) (m' : List Bool) (t' : List ℕ) (chain : ℕ) → rule.action ≡ Action.Call chain →
+  pub one_call : (m0 : List Bool) (t0 : List ℕ) (m : List Bool) (t : List ℕ) (m' : List Bool) (t' : List ℕ) (chain : ℕ) → target_of rule.action ≡ Some chain →
       Spread (IsCalled (take i rules)) m0 t0 m t → Spread (λ c. chain ≡ c) m t m' t' → Spread (IsCalled (take (i + 1) rules)) m0 t0 m' t'
   one_call m0 t0 m t m' t' chain calls s r = both (IsCalled (take i rules)) (λ c. chain ≡ c) (IsCalled (take (i + 1) rules)) m0 t0 m t m' t' called_before
-      (λ c e. called_here c (calls ∙ ap (λ (k : ℕ). Action.Call k) e))
-      (λ c q. elim (called_cases c q) [ inl x ↦ inl x | inr e ↦ inr (same_callee chain c (sym calls ∙ e)) ]) s r
-    where
-      same_callee : (a b : ℕ) → Action.Call a ≡ Action.Call b → a ≡ b
-      same_callee a b e = cc
+      (λ c e. called_here c (calls ∙ ap (λ (k : ℕ). Some k) e))
+      (λ c q. elim (called_cases c q) [ inl x ↦ inl x | inr e ↦ inr (same_target chain c (sym calls ∙ e)) ]) s r
 
 -- all rules were passed
 pub all_rules : {P : Type 0} (rules : List (Rule P)) (i : ℕ) (m0 : List Bool) (t0 : List ℕ) (m : List Bool) (t : List ℕ) → length rules ≤ i → Spread (IsCalled (take i rules)) m0 t0 m t →
@@ -209,7 +213,7 @@ module _ {P : Type 0} (dump : Dump P) where
   )
 
 -- a chain that a rule calls has a mark
-pub inside : {P : Type 0} (rules : List (Rule P)) (i : ℕ) (rule : Rule P) → i < length rules → rule ≡ get_or rules i rule → (chain : ℕ) (m0 m : List Bool) → rule.action ≡ Action.Call chain →
+pub inside : {P : Type 0} (rules : List (Rule P)) (i : ℕ) (rule : Rule P) → i < length rules → rule ≡ get_or rules i rule → (chain : ℕ) (m0 m : List Bool) → target_of rule.action ≡ Some chain →
     ((c : ℕ) → IsCalled rules c → c < length m0) → length m ≡ length m0 → chain < length m
 inside rules i rule h is chain m0 m e within long = let below : chain < length m0 = within chain (rule, (i, h, sym is), e) in omega (arith, below, long)
 

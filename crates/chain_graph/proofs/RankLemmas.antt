@@ -1,20 +1,20 @@
 -- Tables of ranks and visits, and what one more chain adds.
-use Rattle.std.specs.Prelude.{ℕ, suc, ◌+◌, ◌-◌, ◌^◌, ◌<◌, ◌≤◌, ◌≡◌, ◌⊎◌, min, max, List, ◌∷◌, length, take, drop, Option, Some, slice_get, get_or, refl}
+use Rattle.std.specs.Prelude.{ℕ, suc, ◌+◌, ◌-◌, ◌^◌, ◌<◌, ◌≤◌, ◌≡◌, ◌⊎◌, min, max, List, ◌∷◌, length, take, drop, Option, None, Some, slice_get, get_or, refl}
 use Rattle.std.proofs.Common.{arith, subst, sym, ap, ◌∙◌, inl, inr, drop-cons, add-one}
 use Rattle.std.proofs.Math.ListN.{set}
 use Rattle.std.proofs.lemmas.List.{take_all, drop_all, length-set, get_or-set_same, get_or-set_other}
 use Rattle.std.proofs.lemmas.Option.{slice_get-get_or, slice_get_past, slice_get_cases}
 use Rattle.std.proofs.lemmas.Bool.{cases_eq, cases_lt}
-use Rattle.fw_rule.specs.declared.rule.Action.{Action}
 use Rattle.fw_rule.specs.declared.rule.Rule.{Rule}
 use Rattle.fw_rule.specs.declared.rule.Dump.{Dump}
-use Rattle.fw_rule.specs.Calls.{Calls, Reaches, Here, Over, Within, deep}
+use Rattle.fw_rule.specs.Calls.{target_of, Calls, Reaches, Here, Over, Within, deep}
 use Rattle.chain_graph.specs.declared.ranking.Found.{Found}
 use Rattle.chain_graph.specs.Paths.{HasPath}
 use Rattle.chain_graph.specs.Visits.{VisitsOf, None_left, Plain, Called}
-use Rattle.chain_graph.specs.Marks.{IsCalled, AreRulesOf}
-use Rattle.chain_graph.specs.Tables.{Has, IsCapped, IsRight, IsTable, Grows}
-use Rattle.chain_graph.proofs.Marking.{called_cases, called_by}
+use Rattle.chain_graph.specs.Marks.{AreRulesOf}
+use Rattle.chain_graph.specs.inner.Spreading.{IsCalled}
+use Rattle.chain_graph.specs.inner.Tables.{Has, IsCapped, IsRight, IsTable, Grows}
+use Rattle.chain_graph.proofs.Marking.{same_target, no_target, called_cases, called_by}
 use Rattle.chain_graph.proofs.Paths.{within_more, lone, longer, shorter}
 
 pub get_set_same : {X : Type 0} (xs : List X) (i : ℕ) (a : X) → i < length xs → slice_get (set xs i a) i ≡ Some a
@@ -82,13 +82,13 @@ module _ {P : Type 0} (dump : Dump P) where
         dropped xs j d l = rw (add-one, drop-cons xs j d) refl
 
     -- a rule that calls no chain
-    pub plain : ((k : ℕ) → rule.action ≡ Action.Call k → ⊥) → (v : ℕ) → v ≡ min (visits + 1) (2 ^ 64 - 1) → Passed chain depth rules (i + 1) start table below v
+    pub plain : target_of rule.action ≡ None → (v : ℕ) → v ≡ min (visits + 1) (2 ^ 64 - 1) → Passed chain depth rules (i + 1) start table below v
     plain none v v_is = record {
       right = p.right;
       grows = p.grows;
       low = p.low;
       path = p.path;
-      called = λ k q. elim (called_cases rules i rule h is k q) [ inl x ↦ p.called k x | inr e ↦ absurd (none k e) ];
+      called = λ k q. elim (called_cases rules i rule h is k q) [ inl x ↦ p.called k x | inr e ↦ absurd (no_target rules i rule h is k none e) ];
       counted = (
         (p.counted).0 + 1,
         v_is ∙ one_capped visits (p.counted).0 (p.counted).1,
@@ -101,7 +101,7 @@ module _ {P : Type 0} (dump : Dump P) where
         sums a n = omega arith
 
     -- a rule that calls a chain which the grown table has
-    pub calling : (callee : ℕ) → rule.action ≡ Action.Call callee → Calls dump chain callee → (table' : List (Option Found)) (f : Found) → IsTable dump table' → Grows dump callee table table' →
+    pub calling : (callee : ℕ) → target_of rule.action ≡ Some callee → Calls dump chain callee → (table' : List (Option Found)) (f : Found) → IsTable dump table' → Grows dump callee table table' →
         Has table' callee f → f.rank ≤ depth - 1 → (b v : ℕ) → b ≡ max below f.rank → v ≡ min (min (visits + 1) (2 ^ 64 - 1) + f.visits) (2 ^ 64 - 1) →
         Passed chain depth rules (i + 1) start table' b v
     calling callee e q table' f right grows has low b v b_is v_is = record {
@@ -111,7 +111,7 @@ module _ {P : Type 0} (dump : Dump P) where
       path = longest;
       called = λ k x. elim (called_cases rules i rule h is k x) [
         | inl y ↦ (let o = p.called k y in (within_more dump below b k (omega (arith, b_is)) o.0, grows.kept k (o.1).0 (o.1).1))
-        | inr y ↦ (let same : callee ≡ k = same_callee callee k (sym e ∙ y) in
+        | inr y ↦ (let same : callee ≡ k = same_target callee k (sym e ∙ y) in
             (subst (Within dump b) same (within_more dump f.rank b callee (omega (arith, b_is)) r.within), (f, subst (λ (z : ℕ). Has table' z f) same has)))
       ];
       counted = (
@@ -126,9 +126,6 @@ module _ {P : Type 0} (dump : Dump P) where
       where
         r : IsRight dump callee f
         r = right.right callee f has
-
-        same_callee : (a c : ℕ) → Action.Call a ≡ Action.Call c → a ≡ c
-        same_callee a c x = cc
 
         sums : (a m n : ℕ) → a + suc (m + n) ≡ (a + suc m) + n
         sums a m n = omega arith

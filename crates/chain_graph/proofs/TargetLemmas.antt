@@ -13,7 +13,7 @@ use Rattle.chain_graph.specs.Faults.{NoneUnsupported, IsLeastUnsupported, NoLoop
 use Rattle.chain_graph.specs.Marks.{AreRulesOf}
 use Rattle.chain_graph.specs.Paths.{CallsNameChains}
 use Rattle.chain_graph.specs.Refusals.{SettledByPolicy}
-use Rattle.chain_graph.specs.Targets.{IsLeastOf, IsLesser, IsTarget, TargetIn, TargetBefore}
+use Rattle.chain_graph.specs.inner.Targets.{IsLeastOf, IsLesser, IsTarget, TargetIn, TargetBefore}
 
 module _ (A B K : ℕ → List ℕ → Type 0) (of_a : (l : ℕ) (n : List ℕ) → A l n → K l n) (of_b : (l : ℕ) (n : List ℕ) → B l n → K l n) (cases : (l : ℕ) (n : List ℕ) → K l n → A l n ⊎ B l n) where
   -- the lesser of two kinds
@@ -90,8 +90,8 @@ module _ {P : Type 0} where
     none_in_reach next all x rule name u = x rule.line name (u.0, all u.0 u.1, u.1, (rule, u.2, (u.3, refl)))
 
     pub settled : CallsNameChains dump → NoneUnsupported dump asked → NoLoop dump asked → SettledByPolicy dump asked
-    settled named known loops here v at has = record {
-      policy = (here, v, at, has);
+    settled named known loops v has = record {
+      policy = (v, has);
       named = λ a b r q. named a b q;
       known_targets = λ a rule name r there is. known rule name (a, r, there, is);
       no_loop = λ a b r q back. loops a (r, (b, q, back));

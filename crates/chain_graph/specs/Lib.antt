@@ -3,7 +3,6 @@ pub mod Paths
 pub mod Visits
 pub mod Faults
 pub mod Marks
-pub mod Tables
 pub mod Results
-pub mod Targets
 pub mod Refusals
+pub mod inner

@@ -1,11 +1,8 @@
--- Marks on chains, and a list of marked chains whose own calls are still to be followed.
-use Rattle.std.specs.Prelude.{ℕ, ◌+◌, ◌≤◌, ◌≡◌, ◌⊎◌, Bool, true, false, not, List, length, Some, slice_get, get_or, Contains}
-use Rattle.std.specs.List.{count_by}
-use Rattle.fw_rule.specs.declared.rule.Action.{Action}
+-- Marks on chains, and the rules of a chain.
+use Rattle.std.specs.Prelude.{ℕ, ◌≡◌, Bool, true, false, List, Some, slice_get, get_or}
 use Rattle.fw_rule.specs.declared.rule.Rule.{Rule}
 use Rattle.fw_rule.specs.declared.rule.Chain.{Chain}
 use Rattle.fw_rule.specs.declared.rule.Dump.{Dump}
-use Rattle.fw_rule.specs.Calls.{Calls}
 
 -- the chain is marked
 abbrev pub IsMarked : List Bool → ℕ → Type 0
@@ -15,25 +12,6 @@ IsMarked marks c = get_or marks c false ≡ true
 abbrev pub MarksAre : (ℕ → Type 0) → List Bool → Type 0
 MarksAre Kind marks = (c : ℕ) → (IsMarked marks c → Kind c) × (Kind c → IsMarked marks c)
 
--- all chains of this kind have become marked, and those that became so now were put on the list
-pub record Spread (Kind : ℕ → Type 0) (marks : List Bool) (todo : List ℕ) (marks' : List Bool) (todo' : List ℕ) : Type 0 where
-  pub long : length marks' ≡ length marks
-  pub kept : (c : ℕ) → IsMarked marks c → IsMarked marks' c
-  pub stays : (c : ℕ) → Contains todo c → Contains todo' c
-  pub new : (c : ℕ) → IsMarked marks' c → IsMarked marks c ⊎ (Kind c × Contains todo' c)
-  pub put : (c : ℕ) → Contains todo' c → Contains todo c ⊎ Kind c
-  pub all : (c : ℕ) → Kind c → IsMarked marks' c
-  pub fewer : count_by not marks' + length todo' ≤ count_by not marks + length todo
-
-module _ {P : Type 0} where
-  -- one of these rules calls the chain
-  abbrev pub IsCalled : List (Rule P) → ℕ → Type 0
-  IsCalled rules c = (rule : Rule P) × Contains rules rule × (rule.action ≡ Action.Call c)
-
-  -- no call from a marked chain leads to a greater number
-  abbrev pub NeverRises : Dump P → List Bool → List ℕ → Type 0
-  NeverRises dump marks numbers = (a b : ℕ) → IsMarked marks a → Calls dump a b → get_or numbers b 0 ≤ get_or numbers a 0
-
-  -- these are the chain's rules
-  abbrev pub AreRulesOf : Dump P → ℕ → List (Rule P) → Type 0
-  AreRulesOf dump c rules = (here : Chain P) × (slice_get dump.chains c ≡ Some here) × (rules ≡ here.rules)
+-- these are the chain's rules
+abbrev pub AreRulesOf : {P : Type 0} → Dump P → ℕ → List (Rule P) → Type 0
+AreRulesOf {P} dump c rules = (here : Chain P) × (slice_get dump.chains c ≡ Some here) × (rules ≡ here.rules)

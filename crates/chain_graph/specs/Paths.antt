@@ -2,6 +2,7 @@
 use Rattle.std.specs.Prelude.{ℕ, suc, ◌<◌, ◌≤◌, ◌≡◌, List, [], ◌∷◌, length, Option, Some, slice_get, MatchOption}
 use Rattle.fw_rule.specs.declared.rule.Dump.{Dump}
 use Rattle.fw_rule.specs.Calls.{Calls, Reaches}
+use Rattle.limits.specs.declared.TheConstants.{MOST_CHAINS}
 
 module _ {P : Type 0} (dump : Dump P) where
   -- each call names a chain
@@ -21,7 +22,9 @@ module _ {P : Type 0} (dump : Dump P) where
   abbrev pub IsRank : ℕ → ℕ → Type 0
   IsRank c r = HasPath c r × ((n : ℕ) → HasPath c n → n ≤ r)
 
-  -- one item for each chain in order: a rank of at most 256 where the asked chain reaches the chain, and None where it doesn't
+  -- one item for each chain in order: a rank of at most `MOST_CHAINS` where the asked chain reaches the chain, and None
+  -- where it doesn't
   abbrev pub AreRanks : ℕ → List (Option ℕ) → Type 0
   AreRanks asked ranks = (length ranks ≡ length dump.chains)
-      × ((c : ℕ) (o : Option ℕ) → slice_get ranks c ≡ Some o → MatchOption o (Reaches dump asked c → ⊥) (λ r. Reaches dump asked c × IsRank c r × (r ≤ 256)))
+      × ((c : ℕ) (o : Option ℕ) → slice_get ranks c ≡ Some o →
+      MatchOption o (Reaches dump asked c → ⊥) (λ r. Reaches dump asked c × IsRank c r × (r ≤ MOST_CHAINS)))

@@ -1,9 +1,8 @@
 ghost use Rattle.std.specs.Prelude.{◌≡◌, ◌↔◌, ◌<◌, ℕ, IsTrue};
 ghost use Rattle.fw_rule.specs.Calls.{ChainHasRoom, HasRoom};
-ghost use Rattle.chain_graph.specs.Marks.{IsCalled};
+ghost use Rattle.chain_graph.specs.inner.Spreading.{IsCalled};
 ghost use Rattle.chain_graph.specs.Paths.{CallsNameChains};
 
-use crate::reach::callee_of;
 use fw_rule::{Chain, Dump, Rule};
 use match_expr::Primitive;
 
@@ -34,7 +33,7 @@ fn callees_below<P: Primitive>(rules: &[Rule<P>], bound: usize) -> bool
     ensures { IsTrue result ↔ ((k : ℕ) → IsCalled rules.now k → k < bound) }
 {
     for rule in rules {
-        if let Some(callee) = callee_of(rule) {
+        if let Some(callee) = rule.action.target() {
             if callee as usize >= bound {
                 return false;
             }

@@ -10,7 +10,8 @@ use thiserror::Error;
 pub struct Ranked {
     /// The asked chain.
     pub entry: u32,
-    /// For each chain in order the number of chains on the longest call path that begins there, at most 256. None where the asked chain doesn't reach it.
+    /// For each chain in order the number of chains on the longest call path that begins there, at most `MOST_CHAINS`. None
+    /// where the asked chain doesn't reach it.
     pub ranks: List<Option<u32>>,
     /// The asked chain's rules, and with each call the rules that the called chain comes to. The sum stops at 2^64 - 1.
     pub visits: u64,
@@ -25,7 +26,7 @@ pub enum GraphFault {
     /// No target in reach is unsupported, and this is the first declared chain in reach that calls itself over some path.
     #[error("chain {chain} calls itself")]
     Loop { chain: u32 },
-    /// Neither stands, and a call path from the chain has 257 chains.
+    /// Neither stands, and a call path from the chain has one chain more than `MOST_CHAINS`.
     #[error("a call path is too long")]
     Depth,
     /// Memory ran out.

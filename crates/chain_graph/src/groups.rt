@@ -1,6 +1,5 @@
 ghost use Rattle.std.specs.Prelude.{◌≡◌, get_or};
 
-use crate::reach::callee_of;
 use fw_rule::{Dump, Rule};
 use match_expr::Primitive;
 use std::alloc::{AllocError, Global};
@@ -63,7 +62,7 @@ impl Search {
         self.open.push(chain)?;
         self.todo.push(Turn::Leave(chain))?;
         for rule in rules {
-            if let Some(callee) = callee_of(rule) {
+            if let Some(callee) = rule.action.target() {
                 self.todo.push(Turn::Enter(callee))?;
             }
         }
@@ -74,7 +73,7 @@ impl Search {
         let entry = number_of(&self.low, chain);
         let mut least = entry;
         for rule in rules {
-            if let Some(callee) = callee_of(rule) {
+            if let Some(callee) = rule.action.target() {
                 least = least.min(number_of(&self.low, callee));
             }
         }

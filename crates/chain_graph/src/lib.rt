@@ -17,5 +17,5 @@ pub use conditions::{calls_name_chains, has_room};
 pub use graph::{GraphFault, Ranked};
 pub use loops::first_loop;
 pub use ranking::ranked;
-pub use reach::{callee_of, reachable, reached_by_call, rules_of};
+pub use reach::{reachable, reached_by_call, rules_of};
 pub use targets::{Target, least_unsupported};

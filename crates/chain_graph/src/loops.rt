@@ -1,10 +1,10 @@
 ghost use Rattle.std.specs.Prelude.{◌≡◌, ◌<◌, ◌^◌, ℕ, true, false, length, get_or, IfOk, IfSome, IfNone};
 ghost use Rattle.chain_graph.specs.Faults.{ReachesByCall, IsFirstLoop, NoLoop};
-ghost use Rattle.chain_graph.specs.Marks.{IsCalled, NeverRises};
+ghost use Rattle.chain_graph.specs.inner.Spreading.{IsCalled, NeverRises};
 ghost use Rattle.chain_graph.specs.Paths.{CallsNameChains};
 
 use crate::groups::{groups_of, number_of};
-use crate::reach::{callee_of, reachable, reached_by_call, rules_of};
+use crate::reach::{reachable, reached_by_call, rules_of};
 use fw_rule::{Dump, Rule};
 use match_expr::Primitive;
 use std::alloc::{AllocError, Global};
@@ -33,7 +33,7 @@ fn calls_below<P: Primitive>(rules: &[Rule<P>], numbers: &[u32], limit: u64) -> 
     ensures { result ≡ true → (k : ℕ) → IsCalled rules.now k → get_or numbers.now k 0 < limit }
 {
     for rule in rules {
-        if let Some(callee) = callee_of(rule) {
+        if let Some(callee) = rule.action.target() {
             if u64::from(number_of(numbers, callee)) >= limit {
                 return false;
             }

@@ -1,14 +1,16 @@
-ghost use Rattle.std.specs.Prelude.{◌≡◌, ◌+◌, ◌<◌, ◌≤◌, length, map, IfSome, IfNone, IfOk, None};
+ghost use Rattle.std.specs.Prelude.{◌≡◌, ◌+◌, ◌<◌, ◌≤◌, suc, length, map, IfSome, IfNone, IfOk, None};
 ghost use Rattle.std.specs.Option.{option_map};
 ghost use Rattle.fw_rule.specs.declared.rule.Chain.{Chain};
+ghost use Rattle.limits.specs.declared.TheConstants.{MOST_CHAINS};
 ghost use Rattle.chain_graph.specs.declared.ranking.Found.{Found};
 ghost use Rattle.chain_graph.specs.Results.{IsRanked};
 ghost use Rattle.chain_graph.specs.Paths.{CallsNameChains, HasPath};
-ghost use Rattle.chain_graph.specs.Tables.{Has, IsTable, Grows};
+ghost use Rattle.chain_graph.specs.inner.Tables.{Has, IsTable, Grows};
 
 use crate::graph::Ranked;
-use crate::reach::{callee_of, rules_of};
+use crate::reach::rules_of;
 use fw_rule::Dump;
+use limits::MOST_CHAINS;
 use match_expr::{List, Primitive};
 use std::alloc::{AllocError, Global};
 
@@ -47,7 +49,7 @@ fn rank_of<P: Primitive>(
     let mut visits = 0u64;
     for rule in rules_of(dump, chain) {
         visits = visits.saturating_add(1);
-        if let Some(callee) = callee_of(rule) {
+        if let Some(callee) = rule.action.target() {
             let Some(found) = rank_of(dump, callee, depth - 1, table) else {
                 return None;
             };
@@ -87,7 +89,8 @@ fn ranks_in(alloc: Global, table: &[Option<Found>]) -> Result<Vec<Option<u32>>, 
     table.iter().map(|found| rank_in(*found)).collect(alloc)
 }
 
-/// The ranks of the chains that a chain reaches, and its visits. None where a call path from it has 257 chains, as it has where one of them calls itself.
+/// The ranks of the chains that a chain reaches, and its visits. None where a call path from it
+/// has more chains than `MOST_CHAINS`, as it has where one of them calls itself.
 pub fn ranked<P: Primitive>(
     alloc: Global,
     dump: &Dump<P>,
@@ -96,10 +99,10 @@ pub fn ranked<P: Primitive>(
     requires there { chain < length dump.now.chains }
     requires named { CallsNameChains dump.now }
     ensures some { IfOk result (λ o. IfSome o (IsRanked dump.now chain)) }
-    ensures none { IfOk result (λ o. IfNone o (HasPath dump.now chain 257)) }
+    ensures none { IfOk result (λ o. IfNone o (HasPath dump.now chain (suc MOST_CHAINS))) }
 {
     let mut table = no_ranks(alloc, dump)?;
-    let Some(top) = rank_of(dump, chain, 256, &mut table) else {
+    let Some(top) = rank_of(dump, chain, MOST_CHAINS, &mut table) else {
         return Ok(None);
     };
     let ranks = ranks_in(alloc, &table)?;

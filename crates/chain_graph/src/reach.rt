@@ -1,11 +1,11 @@
-ghost use Rattle.std.specs.Prelude.{◌≡◌, ◌<◌, ◌⊎◌, ℕ, length, IfOk, OnOk, MatchOption};
+ghost use Rattle.std.specs.Prelude.{◌≡◌, ◌<◌, ℕ, length, IfOk, OnOk};
 ghost use Rattle.fw_rule.specs.Calls.{Reaches};
-ghost use Rattle.fw_rule.specs.declared.rule.Action as action;
 ghost use Rattle.chain_graph.specs.Faults.{ReachesByCall};
-ghost use Rattle.chain_graph.specs.Marks.{MarksAre, Spread, IsCalled, AreRulesOf};
+ghost use Rattle.chain_graph.specs.Marks.{MarksAre, AreRulesOf};
+ghost use Rattle.chain_graph.specs.inner.Spreading.{Spread, IsCalled};
 ghost use Rattle.chain_graph.specs.Paths.{CallsNameChains};
 
-use fw_rule::{Action, Dump, Rule};
+use fw_rule::{Dump, Rule};
 use match_expr::Primitive;
 use std::alloc::{AllocError, Global};
 
@@ -15,16 +15,6 @@ pub fn rules_of<P: Primitive>(dump: &Dump<P>, chain: u32) -> &[Rule<P>]
     ensures { AreRulesOf dump.now chain result.now }
 {
     dump.chains.as_slice()[chain as usize].rules.as_slice()
-}
-
-/// The chain that a rule calls.
-pub fn callee_of<P: Primitive>(rule: &Rule<P>) -> Option<u32>
-    ensures { MatchOption result ((k : ℕ) → rule.now.action ≡ action.Action.Call k → ⊥) (λ k. rule.now.action ≡ action.Action.Call k) }
-{
-    match rule.action {
-        Action::Call(chain) => Some(chain),
-        _ => None,
-    }
 }
 
 /// Marks a chain, and puts it on the list where it wasn't marked.
@@ -50,7 +40,7 @@ fn mark_callees<P: Primitive>(
     ensures { OnOk result (Spread (IsCalled rules.now) marks.old todo.old.items marks.new todo.new.items) }
 {
     for rule in rules {
-        if let Some(chain) = callee_of(rule) {
+        if let Some(chain) = rule.action.target() {
             mark(marks, todo, chain)?;
         }
     }

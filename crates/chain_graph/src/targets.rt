@@ -1,7 +1,7 @@
 ghost use Rattle.std.specs.Prelude.{◌≡◌, ◌<◌, ◌^◌, length, IfOk, IfSome, IfNone};
 ghost use Rattle.chain_graph.specs.Faults.{NoneUnsupported, IsLeastUnsupported};
 ghost use Rattle.chain_graph.specs.Paths.{CallsNameChains};
-ghost use Rattle.chain_graph.specs.Targets.{IsLeastOf, IsLesser, IsTarget, TargetIn};
+ghost use Rattle.chain_graph.specs.inner.Targets.{IsLeastOf, IsLesser, IsTarget, TargetIn};
 
 use crate::loops::is_marked;
 use crate::reach::{reachable, rules_of};
@@ -17,7 +17,10 @@ pub struct Target {
 }
 
 /// The unsupported target of a rule, if it has one.
-fn target_of<P: Primitive>(alloc: Global, rule: &Rule<P>) -> Result<Option<Target>, AllocError>
+fn unsupported_target<P: Primitive>(
+    alloc: Global,
+    rule: &Rule<P>,
+) -> Result<Option<Target>, AllocError>
     ensures { IfOk result (IsLeastOf (IsTarget rule.now)) }
 {
     match &rule.action {
@@ -51,7 +54,7 @@ fn least_in<P: Primitive>(alloc: Global, rules: &[Rule<P>]) -> Result<Option<Tar
 {
     let mut best = None;
     for rule in rules {
-        let target = target_of(alloc, rule)?;
+        let target = unsupported_target(alloc, rule)?;
         best = lesser(best, target);
     }
     Ok(best)

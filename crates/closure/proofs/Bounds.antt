@@ -1,19 +1,20 @@
 -- No walk has a better outcome than the best one; where no literal is unknown it has the best one.
-use Rattle.std.proofs.Common.{◌≡◌, ℕ, zero, suc, ◌+◌, Bool, true, false, not, ◌&&◌, List, [], ◌∷◌, map, if◌then◌else◌, refl, sym, ◌∙◌, true≢false}
+use Rattle.std.proofs.Common.{◌≡◌, ℕ, zero, suc, ◌+◌, Bool, true, false, not, List, [], ◌∷◌, map, if◌then◌else◌, refl, sym, ◌∙◌, true≢false}
+use Rattle.basics.proofs.Truths.{both_true}
 use Rattle.match_expr.specs.Meaning.{eval_of, every}
+use Rattle.match_expr.specs.declared.expr.Expr.{Expr}
 use Rattle.match_expr.specs.declared.expr.Expr.TheVariants.{Not}
 use Rattle.match_expr.proofs.Equations.{eval-All, eval-Not}
 use Rattle.fw_rule.specs.declared.rule.Lit.{Lit}
 use Rattle.fw_rule.specs.declared.rule.Rule.{Rule}
 use Rattle.fw_rule.specs.declared.rule.Dump.{Dump}
 use Rattle.fw_rule.specs.declared.rule.Step.{Step}
-use Rattle.closure.specs.declared.sides.Side.{Side}
+use Rattle.fw_rule.specs.declared.side.Side.{Side}
 use Rattle.fw_rule.specs.Matching.{known_of, known_in, doubt_in}
 use Rattle.closure.specs.Rewriting.{kind, rules_of}
-use Rattle.closure.specs.declared.modes.Kind.{Kind}
-use Rattle.closure.specs.declared.modes.Kind.TheVariants.{GoodVerdict, BadVerdict, GoOn, GoBack, CallTo}
-use Rattle.closure.specs.Laws.{AsGood}
-use Rattle.closure.specs.Outcomes.{Outcome, Good, Ends, Bad, or_end, then_rest, or_rest, best_row, best_rules, best, Truth, under, step_of, lits_hold, walked_rules, walked}
+use Rattle.closure.specs.declared.modes.ActionKind.{ActionKind}
+use Rattle.closure.specs.declared.modes.ActionKind.TheVariants.{GoodVerdict, BadVerdict, GoOn, GoBack, CallTo}
+use Rattle.closure.proofs.Outcomes.{AsGood, Outcome, Good, Ends, Bad, or_end, then_rest, or_rest, best_row, best_rules, best, Truth, under, step_of, lits_hold, walked_rules, walked}
 
 as_bad : (a : Outcome) → AsGood a Bad
 as_bad Good = tt
@@ -56,38 +57,22 @@ or_then_more Bad Ends x y h g = absurd h
 or_then_more Bad Bad x y h g = as_bad x
 
 module _ {P : Type 0} (h : P → Bool) where
+  pub of_known : (neg : Bool) (x : Expr P) → eval_of h (if neg then Not x else x) ≡ (if neg then not (eval_of h x) else eval_of h x)
+  of_known true x = eval-Not h x
+  of_known false x = refl
+
   -- the known literals of a rule that matches hold
   pub matched : (t : Truth) (steps : List Step) (l : ℕ) (lits : List (Lit P)) → lits_hold h t steps l lits ≡ true → every (map (eval_of h) (known_in lits)) ≡ true
   matched t steps l [] e = refl
   matched t steps l (Lit.Known neg x ∷ lits) e =
-      rw (of_known neg, first_of_two (if neg then not (eval_of h x) else eval_of h x) (lits_hold h t steps (l + 1) lits) e)
-      (matched t steps (l + 1) lits (second_of_two (if neg then not (eval_of h x) else eval_of h x) (lits_hold h t steps (l + 1) lits) e))
-    where
-      of_known : (neg : Bool) → eval_of h (if neg then Not x else x) ≡ (if neg then not (eval_of h x) else eval_of h x)
-      of_known true = eval-Not h x
-      of_known false = refl
-
-      first_of_two : (a b : Bool) → (a && b) ≡ true → a ≡ true
-      first_of_two true b e = refl
-      first_of_two false b e = absurd (true≢false (sym e))
-
-      second_of_two : (a b : Bool) → (a && b) ≡ true → b ≡ true
-      second_of_two true b e = e
-      second_of_two false b e = absurd (true≢false (sym e))
-  matched t steps l (Lit.Unknown text ∷ lits) e = matched t steps (l + 1) lits (second_of_two (t steps l) (lits_hold h t steps (l + 1) lits) e)
-    where
-      second_of_two : (a b : Bool) → (a && b) ≡ true → b ≡ true
-      second_of_two true b e = e
-      second_of_two false b e = absurd (true≢false (sym e))
+      let parts = both_true (if neg then not (eval_of h x) else eval_of h x) (lits_hold h t steps (l + 1) lits) e in
+      rw (of_known neg x, parts.0) (matched t steps (l + 1) lits parts.1)
+  matched t steps l (Lit.Unknown text ∷ lits) e = matched t steps (l + 1) lits (both_true (t steps l) (lits_hold h t steps (l + 1) lits) e).1
 
   -- of a rule without unknown literals the known ones decide
   pub sure : (t : Truth) (steps : List Step) (l : ℕ) (lits : List (Lit P)) → doubt_in lits ≡ false → lits_hold h t steps l lits ≡ every (map (eval_of h) (known_in lits))
   sure t steps l [] e = refl
-  sure t steps l (Lit.Known neg x ∷ lits) e = rw (of_known neg, sure t steps (l + 1) lits e) refl
-    where
-      of_known : (neg : Bool) → eval_of h (if neg then Not x else x) ≡ (if neg then not (eval_of h x) else eval_of h x)
-      of_known true = eval-Not h x
-      of_known false = refl
+  sure t steps l (Lit.Known neg x ∷ lits) e = rw (of_known neg x, sure t steps (l + 1) lits e) refl
   sure t steps l (Lit.Unknown text ∷ lits) e = absurd (true≢false e)
 
   pub sure_rule : (t : Truth) (steps : List Step) (rule : Rule P) → doubt_in rule.lits ≡ false → lits_hold h t steps 0 rule.lits ≡ eval_of h (known_of rule)
@@ -98,7 +83,7 @@ module _ {P : Type 0} (h : P → Bool) where
 
 -- a rule that is sure
 sure_row : (best_callee callee : ℕ → Outcome) (best_rest rest : Outcome) → ((c : ℕ) → AsGood (best_callee c) (callee c)) → AsGood best_rest rest →
-    (what : Kind) → AsGood (best_row best_callee best_rest false what) (best_row callee rest false what)
+    (what : ActionKind) → AsGood (best_row best_callee best_rest false what) (best_row callee rest false what)
 sure_row best_callee callee best_rest rest hc hr GoodVerdict = tt
 sure_row best_callee callee best_rest rest hc hr BadVerdict = tt
 sure_row best_callee callee best_rest rest hc hr GoOn = hr
@@ -107,7 +92,7 @@ sure_row best_callee callee best_rest rest hc hr (CallTo c) = then_more (best_ca
 
 -- a doubtful rule that matches
 doubtful_row : (best_callee callee : ℕ → Outcome) (best_rest rest : Outcome) → ((c : ℕ) → AsGood (best_callee c) (callee c)) → AsGood best_rest rest →
-    (what : Kind) → AsGood (best_row best_callee best_rest true what) (best_row callee rest false what)
+    (what : ActionKind) → AsGood (best_row best_callee best_rest true what) (best_row callee rest false what)
 doubtful_row best_callee callee best_rest rest hc hr GoodVerdict = tt
 doubtful_row best_callee callee best_rest rest hc hr BadVerdict = as_bad best_rest
 doubtful_row best_callee callee best_rest rest hc hr GoOn = hr
@@ -115,7 +100,7 @@ doubtful_row best_callee callee best_rest rest hc hr GoBack = or_end_end best_re
 doubtful_row best_callee callee best_rest rest hc hr (CallTo c) = or_then_more (best_callee c) (callee c) best_rest rest (hc c) hr
 
 -- a doubtful rule that doesn't match
-missed_row : (best_callee : ℕ → Outcome) (best_rest rest : Outcome) → AsGood best_rest rest → (what : Kind) → AsGood (best_row best_callee best_rest true what) rest
+missed_row : (best_callee : ℕ → Outcome) (best_rest rest : Outcome) → AsGood best_rest rest → (what : ActionKind) → AsGood (best_row best_callee best_rest true what) rest
 missed_row best_callee best_rest rest hr GoodVerdict = tt
 missed_row best_callee best_rest rest hr BadVerdict = hr
 missed_row best_callee best_rest rest hr GoOn = hr
@@ -123,7 +108,7 @@ missed_row best_callee best_rest rest hr GoBack = or_end_more best_rest rest hr
 missed_row best_callee best_rest rest hr (CallTo c) = or_rest_more (best_callee c) best_rest rest hr
 
 -- known literals that hold or not, a match or not, a doubtful rule or not
-any_row : (best_callee callee : ℕ → Outcome) (best_rest rest : Outcome) → ((c : ℕ) → AsGood (best_callee c) (callee c)) → AsGood best_rest rest → (what : Kind) →
+any_row : (best_callee callee : ℕ → Outcome) (best_rest rest : Outcome) → ((c : ℕ) → AsGood (best_callee c) (callee c)) → AsGood best_rest rest → (what : ActionKind) →
     (k b d : Bool) → (b ≡ true → k ≡ true) → (d ≡ false → b ≡ k) →
     AsGood (if k then best_row best_callee best_rest d what else best_rest) (if b then best_row callee rest false what else rest)
 any_row best_callee callee best_rest rest hc hr what false false d up same = hr

@@ -5,12 +5,11 @@ use Rattle.std.proofs.lemmas.Bool.{cases_lt}
 use Rattle.std.proofs.lemmas.List.{length-set}
 use Rattle.std.proofs.lemmas.Option.{same_Some, slice_get_within}
 use Rattle.match_expr.specs.declared.expr.Expr.{Expr}
-use Rattle.fw_rule.specs.declared.rule.Action.{Action}
 use Rattle.fw_rule.specs.declared.rule.Rule.{Rule}
 use Rattle.fw_rule.specs.declared.rule.Chain.{Chain}
 use Rattle.fw_rule.specs.declared.rule.Dump.{Dump}
 use Rattle.fw_rule.specs.Matching.{known_of, doubt_in}
-use Rattle.fw_rule.specs.Walk.{Calls, Within, deep, Reaches}
+use Rattle.fw_rule.specs.Walk.{Calls, Within, deep, Reaches, target_of}
 use Rattle.fw_rule.proofs.Ends.{append, contains_at}
 use Rattle.chain_graph.specs.declared.graph.Ranked.{Ranked}
 use Rattle.chain_graph.proofs.Paths.{longer}
@@ -18,11 +17,11 @@ use Rattle.closure.specs.declared.counting.Counts.{Counts}
 use Rattle.closure.specs.declared.modes.Mode.{Mode}
 use Rattle.closure.specs.declared.modes.Mode.TheVariants.{Hard, Soft}
 use Rattle.closure.specs.declared.modes.Row.{Row}
-use Rattle.closure.specs.declared.sides.Side.{Side}
-use Rattle.closure.specs.Checked.{IsChecked}
+use Rattle.fw_rule.specs.declared.side.Side.{Side}
+use Rattle.closure.specs.Checked.{IsRankedWithPolicy}
 use Rattle.closure.specs.Rewriting.{Tree, nodes, kind, row_of, shape, items, tree, rules_at, greatest_depth}
-use Rattle.closure.specs.Counts.{capped, in_mode, entry, row_items, rule_items, rules_items}
-use Rattle.closure.specs.Counted.{counts_of, IsCounted, AreCounted}
+use Rattle.closure.specs.inner.Counts.{capped, in_mode, entry, row_items, rule_items, rules_items}
+use Rattle.closure.specs.inner.Counted.{counts_of, IsCounted, AreCounted}
 use Rattle.closure.proofs.Depths.{items_same, same_tree}
 use Rattle.closure.proofs.FlatLemmas.{run_kind, calls, within_some}
 use Rattle.closure.proofs.RankReads.{rank_at, rank_is, within_rank, within_limit}
@@ -73,7 +72,7 @@ module _ {P : Type 0} where
     shape_items counts rest mode e s k (Row.Run c m) f = both_more (in_mode (entries c) m) (nodes (callee c m)) (in_mode counts mode) (nodes (rest mode)) (called c (f c m refl) m) e
 
   module _ (side : Side) (callee : ℕ → Mode → Tree P) (same : (c j : ℕ) → nodes (callee c (Soft (suc j))) ≡ nodes (callee c Hard)) (table : List Counts) where
-    one_rule : (rule : Rule P) (rules : List (Rule P)) → ((k : ℕ) → rule.action ≡ Action.Call k → entry table k ≡ counts_of (callee k)) →
+    one_rule : (rule : Rule P) (rules : List (Rule P)) → ((k : ℕ) → target_of rule.action ≡ Some k → entry table k ≡ counts_of (callee k)) →
         rules_items side table rules ≡ counts_of (items side callee rules) → (mode : Mode) →
         in_mode (rules_items side table rules) mode ≡ capped (nodes (items side callee rules mode)) →
         rule_items side table rule (rules_items side table rules) mode ≡ capped (nodes (items side callee (rule ∷ rules) mode))
@@ -83,7 +82,7 @@ module _ {P : Type 0} where
         (λ c m r. table_is c (calls side rule.action c (run_kind side (doubt_in rule.lits) (kind side rule.action) mode m c (sym r)).0))
 
     -- it is enough that the table has the numbers of the called chains
-    pub rules_counted : (rules : List (Rule P)) → ((i : ℕ) (rule : Rule P) (k : ℕ) → slice_get rules i ≡ Some rule → rule.action ≡ Action.Call k → entry table k ≡ counts_of (callee k)) →
+    pub rules_counted : (rules : List (Rule P)) → ((i : ℕ) (rule : Rule P) (k : ℕ) → slice_get rules i ≡ Some rule → target_of rule.action ≡ Some k → entry table k ≡ counts_of (callee k)) →
         rules_items side table rules ≡ counts_of (items side callee rules)
     rules_counted [] table_is = refl
     rules_counted (rule ∷ rules) table_is =
@@ -95,7 +94,7 @@ module _ {P : Type 0} where
   counts_same : (t u : Mode → Tree P) → ((m : Mode) → t m ≡ u m) → counts_of t ≡ counts_of u
   counts_same t u e = λ i. record { hard = capped (nodes (e Hard i)); soft = capped (nodes (e (Soft 0) i)) }
 
-  module _ (side : Side) (dump : Dump P) (asked : ℕ) (ranked : Ranked) (checked : IsChecked dump asked ranked) (table : List Counts) where
+  module _ (side : Side) (dump : Dump P) (asked : ℕ) (ranked : Ranked) (checked : IsRankedWithPolicy dump asked ranked) (table : List Counts) where
     -- the numbers of a chain, where the table has those of lesser rank
     pub chain_counted : (c rank : ℕ) (here : Chain P) → slice_get dump.chains c ≡ Some here → slice_get ranked.ranks c ≡ Some (Some rank) →
         ((k r : ℕ) → slice_get ranked.ranks k ≡ Some (Some r) → r < rank → IsCounted side dump table k) → rules_items side table here.rules ≡ counts_of (tree side dump greatest_depth c)
@@ -110,7 +109,7 @@ module _ {P : Type 0} where
             let least : suc r.0 ≤ rank = ((rank_is dump asked ranked checked c rank at_rank).1).1 (suc r.0) (longer dump c k r.0 call (r.2).0) in
             lesser k r.0 r.1 (omega (arith, least))
 
-        call_at : (i : ℕ) (rule : Rule P) (k : ℕ) → slice_get here.rules i ≡ Some rule → rule.action ≡ Action.Call k → Calls dump c k
+        call_at : (i : ℕ) (rule : Rule P) (k : ℕ) → slice_get here.rules i ≡ Some rule → target_of rule.action ≡ Some k → Calls dump c k
         call_at i rule k at a = (rule, (here, at_c, contains_at here.rules i rule at), a)
 
         by_depth : (d : ℕ) → Within dump d c → rules_items side table here.rules ≡ counts_of (tree side dump greatest_depth c)
@@ -154,7 +153,7 @@ module _ {P : Type 0} where
       ];
     }
 
-    pub this_rank : (asked : ℕ) → IsChecked dump asked ranked → (next : ℕ) (table : List Counts) (here : Chain P) (counts : Counts) → slice_get dump.chains next ≡ Some here → slice_get ranked.ranks next ≡ Some (Some rank) →
+    pub this_rank : (asked : ℕ) → IsRankedWithPolicy dump asked ranked → (next : ℕ) (table : List Counts) (here : Chain P) (counts : Counts) → slice_get dump.chains next ≡ Some here → slice_get ranked.ranks next ≡ Some (Some rank) →
         counts ≡ rules_items side table here.rules → Counting next table → Counting (next + 1) (set table next counts)
     this_rank asked checked next table here counts at_next at_rank is h =
         let inside : next < length table = let n = slice_get_within dump.chains next here at_next in omega (arith, n, h.long) in

@@ -1,17 +1,16 @@
 -- A chain's tree is the same for each depth that bounds its calls.
 use Rattle.std.proofs.Common.{◌≡◌, ℕ, zero, suc, List, [], ◌∷◌, Option, None, Some, slice_get, refl, sym, ap}
 use Rattle.match_expr.specs.declared.expr.Expr.{Expr}
-use Rattle.fw_rule.specs.declared.rule.Action.{Action}
 use Rattle.fw_rule.specs.declared.rule.Rule.{Rule}
 use Rattle.fw_rule.specs.declared.rule.Chain.{Chain}
 use Rattle.fw_rule.specs.declared.rule.Dump.{Dump}
 use Rattle.fw_rule.specs.Matching.{known_of, doubt_in}
-use Rattle.fw_rule.specs.Walk.{RuleOf, Calls, Within, deep}
+use Rattle.fw_rule.specs.Walk.{RuleOf, Calls, Within, deep, target_of}
 use Rattle.fw_rule.proofs.Ends.{contains_at}
 use Rattle.closure.specs.declared.modes.Mode.{Mode}
 use Rattle.closure.specs.declared.modes.Mode.TheVariants.{Soft}
 use Rattle.closure.specs.declared.modes.Row.{Row}
-use Rattle.closure.specs.declared.sides.Side.{Side}
+use Rattle.fw_rule.specs.declared.side.Side.{Side}
 use Rattle.closure.specs.Rewriting.{Tree, Decide, Leave, kind, row_of, shape, items, rules_at, rules_of, tree}
 use Rattle.closure.proofs.FlatLemmas.{run_kind, calls}
 
@@ -31,7 +30,7 @@ module _ {P : Type 0} where
     shape_same k rest rest' e mode (Row.Run c m) f = rw (f c m refl, e mode) refl
 
     -- it is enough that the called chains have the same items
-    pub items_same : (side : Side) (rules : List (Rule P)) → ((i : ℕ) (rule : Rule P) (k : ℕ) (m : Mode) → slice_get rules i ≡ Some rule → rule.action ≡ Action.Call k → a k m ≡ b k m) →
+    pub items_same : (side : Side) (rules : List (Rule P)) → ((i : ℕ) (rule : Rule P) (k : ℕ) (m : Mode) → slice_get rules i ≡ Some rule → target_of rule.action ≡ Some k → a k m ≡ b k m) →
         (mode : Mode) → items side a rules mode ≡ items side b rules mode
     items_same side [] same mode = refl
     items_same side (rule ∷ rules) same mode =

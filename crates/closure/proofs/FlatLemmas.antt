@@ -6,17 +6,19 @@ use Rattle.fw_rule.specs.declared.rule.Action.{Action}
 use Rattle.fw_rule.specs.declared.rule.Rule.{Rule}
 use Rattle.fw_rule.specs.declared.rule.Chain.{Chain}
 use Rattle.fw_rule.specs.declared.rule.Dump.{Dump}
-use Rattle.fw_rule.specs.Walk.{Within, InSettled}
+use Rattle.fw_rule.specs.Walk.{Calls, Within, InSettled, target_of}
 use Rattle.fw_rule.proofs.Turns.{chain_read, rule_read}
-use Rattle.closure.specs.declared.sides.Side.{Side}
-use Rattle.closure.specs.declared.modes.Kind.{Kind}
-use Rattle.closure.specs.declared.modes.Kind.TheVariants.{GoodVerdict, BadVerdict, GoOn, GoBack, CallTo}
+use Rattle.fw_rule.proofs.Ends.{contains_at}
+use Rattle.fw_rule.specs.declared.side.Side.{Side}
+use Rattle.closure.specs.declared.modes.ActionKind.{ActionKind}
+use Rattle.closure.specs.declared.modes.ActionKind.TheVariants.{GoodVerdict, BadVerdict, GoOn, GoBack, CallTo}
 use Rattle.closure.specs.declared.modes.Row.{Row}
 use Rattle.closure.specs.declared.modes.Escape.{Escape}
 use Rattle.closure.specs.declared.modes.Mode.{Mode}
 use Rattle.closure.specs.declared.modes.Mode.TheVariants.{Hard, Soft}
 use Rattle.fw_rule.specs.Matching.{known_of, doubt_in}
-use Rattle.closure.specs.Rewriting.{Tree, Leave, Block, level, kind, row_of, shape, items, rules_of, tree}
+use Rattle.closure.specs.Rewriting.{Tree, Leave, Block, kind, row_of, shape, items, rules_of, tree}
+use Rattle.closure.specs.inner.Items.{level}
 use Rattle.closure.specs.Flat.{escape, carried, stayed, escapes}
 
 pub escape_first : {P : Type 0} (past : List (Expr P)) (n : ℕ) (e : Expr P) (rest : List (Escape P)) → escape past n e rest ≡ escape past n e [] ++ rest
@@ -39,7 +41,7 @@ within_some dump zero c w = elim w [ ]
 within_some dump (suc d) c w = omega arith
 
 -- a row that runs a block is of a call
-pub run_kind : (side : Side) (d : Bool) (what : Kind) (mode inner : Mode) (c : ℕ) → Row.Run c inner ≡ row_of side d what mode → (what ≡ CallTo c) × (level inner ≤ level mode + 1)
+pub run_kind : (side : Side) (d : Bool) (what : ActionKind) (mode inner : Mode) (c : ℕ) → Row.Run c inner ≡ row_of side d what mode → (what ≡ CallTo c) × (level inner ≤ level mode + 1)
 run_kind side true GoodVerdict mode inner c e = cc
 run_kind side false GoodVerdict mode inner c e = cc
 run_kind side true BadVerdict mode inner c e = cc
@@ -55,8 +57,8 @@ run_kind side false (CallTo k) Hard inner c e = let q : c ≡ k = cc in let r : 
 run_kind side false (CallTo k) (Soft j) inner c e = let q : c ≡ k = cc in let r : inner ≡ Soft (suc j) = cc in (rw q refl, rw r (omega arith))
 run_kind side true (CallTo k) mode inner c e = let q : c ≡ k = cc in let r : inner ≡ Soft 0 = cc in (rw q refl, rw r (omega arith))
 
--- a rule that is seen as a call is one
-pub calls : (side : Side) (action : Action) (k : ℕ) → kind side action ≡ CallTo k → action ≡ Action.Call k
+-- a rule that is seen as a call leads to the chain
+pub calls : (side : Side) (action : Action) (k : ℕ) → kind side action ≡ CallTo k → target_of action ≡ Some k
 calls Side.Upper Action.Accept k e = cc
 calls Side.Upper Action.Drop k e = cc
 calls Side.Upper Action.Pass k e = cc
@@ -106,6 +108,13 @@ pub rule_here : {P : Type 0} (dump : Dump P) (c next : ℕ) (chains : List (Chai
 rule_here dump c next chains x rules a s b r rule n i =
     let e : slice_get dump.chains c ≡ Some x = chain_read dump c next chains x rules a s b r in
     rw e (rule_read dump c next chains x rules a s b r rule n i x e)
+
+-- the chain that it leads to is called
+pub leads : {P : Type 0} (dump : Dump P) (c next : ℕ) (chains : List (Chain P)) (x : Chain P) (rules : List (Rule P)) → chains ≡ dump.chains → InSettled dump c →
+    x ≡ get_or chains c x → rules ≡ (get_or chains c x).rules → (rule : Rule P) → next < length rules → rule ≡ get_or rules next rule → (k : ℕ) → target_of rule.action ≡ Some k → Calls dump c k
+leads dump c next chains x rules a s b r rule n i k t =
+    let e : slice_get dump.chains c ≡ Some x = chain_read dump c next chains x rules a s b r in
+    (rule, (x, e, contains_at x.rules next rule (rule_read dump c next chains x rules a s b r rule n i x e)), t)
 
 pub rules_over : {P : Type 0} (dump : Dump P) (c next : ℕ) (chains : List (Chain P)) (x : Chain P) (rules : List (Rule P)) → chains ≡ dump.chains → InSettled dump c →
     x ≡ get_or chains c x → rules ≡ (get_or chains c x).rules → length rules ≤ next → drop next (rules_of dump c) ≡ []

@@ -3,9 +3,9 @@ use Rattle.std.proofs.Common.{◌≡◌, ℕ, zero, suc, ◌+◌, Bool, true, fa
 use Rattle.match_expr.specs.declared.expr.Expr.{Expr}
 use Rattle.fw_rule.specs.declared.rule.Rule.{Rule}
 use Rattle.fw_rule.specs.declared.rule.Dump.{Dump}
-use Rattle.closure.specs.declared.sides.Side.{Side}
-use Rattle.closure.specs.declared.modes.Kind.{Kind}
-use Rattle.closure.specs.declared.modes.Kind.TheVariants.{GoodVerdict, BadVerdict, GoOn, GoBack, CallTo}
+use Rattle.fw_rule.specs.declared.side.Side.{Side}
+use Rattle.closure.specs.declared.modes.ActionKind.{ActionKind}
+use Rattle.closure.specs.declared.modes.ActionKind.TheVariants.{GoodVerdict, BadVerdict, GoOn, GoBack, CallTo}
 use Rattle.closure.specs.declared.modes.Mode.{Mode}
 use Rattle.closure.specs.declared.modes.Mode.TheVariants.{Hard, Soft}
 use Rattle.fw_rule.specs.Matching.{known_of, doubt_in}
@@ -13,7 +13,7 @@ use Rattle.closure.specs.Rewriting.{Tree, nodes, row_of, shape, items, tree, kin
 
 module _ {P : Type 0} (side : Side) where
   row_nodes : (callee : ℕ → Mode → Tree P) → ((c j : ℕ) → nodes (callee c (Soft (suc j))) ≡ nodes (callee c Hard)) → (k : Expr P) (rest : Mode → Tree P) (j : ℕ) →
-      nodes (rest (Soft (suc j))) ≡ nodes (rest Hard) → (d : Bool) (what : Kind) →
+      nodes (rest (Soft (suc j))) ≡ nodes (rest Hard) → (d : Bool) (what : ActionKind) →
       nodes (shape callee k rest (Soft (suc j)) (row_of side d what (Soft (suc j)))) ≡ nodes (shape callee k rest Hard (row_of side d what Hard))
   row_nodes callee hc k rest j e true GoodVerdict = ap suc e
   row_nodes callee hc k rest j e false GoodVerdict = ap suc e

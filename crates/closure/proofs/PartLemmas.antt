@@ -8,7 +8,7 @@ use Rattle.closure.specs.declared.modes.Parts.{Parts}
 use Rattle.closure.specs.Rewriting.{Tree, Done, Decide, Leave, Block}
 use Rattle.closure.specs.Flat.{stayed, escapes, flat_of, flat_list}
 use Rattle.closure.specs.Stream.{cut_all, stream}
-use Rattle.closure.specs.Parts.{with_part, rule_of_parts}
+use Rattle.closure.specs.inner.Parts.{with_part, rule_of_parts}
 
 module _ {P : Type 0} where
   abbrev made : List (Expr P) → Parts P

@@ -10,9 +10,9 @@ use Rattle.closure.specs.declared.modes.Mode.{Mode}
 use Rattle.closure.specs.declared.modes.Mode.TheVariants.{Soft}
 use Rattle.closure.specs.declared.modes.Row.{Row}
 use Rattle.closure.specs.declared.modes.RulesFrom.{RulesFrom}
-use Rattle.closure.specs.declared.sides.Side.{Side}
+use Rattle.fw_rule.specs.declared.side.Side.{Side}
 use Rattle.closure.specs.Rewriting.{Tree, Leave, kind, row_of, shape, tree, rules_of}
-use Rattle.closure.specs.Items.{items_from}
+use Rattle.closure.specs.inner.Items.{items_from}
 use Rattle.closure.specs.Flat.{escape, carried, stayed, escapes}
 use Rattle.closure.specs.Stream.{cut_all, stream}
 use Rattle.closure.proofs.FlatLemmas.{items_at}
@@ -115,3 +115,41 @@ module _ {P S K : Type 0} (given : K → List (S × Bool) → Type 0) (cut : S �
         (all_passed cut side dump from (xs ++ stream cut start (items_from side dump from)) (escapes [] (items_from side dump from)) next y.0 s past found over (record { states = y.2; escapes = h.escapes })).0 y.1,
     (all_passed cut side dump from (stream cut s (items_from side dump (moved from next from.mode))) (escapes [] (items_from side dump from)) next [] s past found over (record { states = refl; escapes = h.escapes })).1,
   )
+
+  -- a turn at a rule, by its row
+  module _ (next : ℕ) (rule : Rule P) (here : slice_get (rules_of dump from.chain) next ≡ Some rule) (e : Expr P) (e_is : e ≡ known_of rule)
+      (k : K) (s : S) (past : List (Expr P)) (found : List (Escape P)) (h : Gave next k s past found) where
+    abbrev RowIs : Row → Type 0
+    RowIs r = r ≡ row_of side (doubt_in rule.lits) (kind side rule.action) from.mode
+
+    abbrev all : List (Escape P)
+    all = escapes [] (items_from side dump from)
+
+    pub gave_skipped : RowIs Row.Skip → Gave (next + 1) k s past found
+    gave_skipped is = gave_more next (next + 1) k k s s past past found found (λ ys. ys) (λ ys g. g)
+        (λ R ys c. skipped cut side dump from R all next rule here e e_is ys s past found c is) h
+
+    pub gave_decided : (v : Bool) → RowIs (Row.Decide v) → (s' : S) → s' ≡ cut s e → (k' : K) →
+        ((ys : List (S × Bool)) → given k ys → given k' (ys ++ (s', v) ∷ [])) → Gave (next + 1) k' s past found
+    gave_decided v is s' z k' put = gave_more next (next + 1) k k' s s past past found found (λ ys. ys ++ (s', v) ∷ []) put
+        (λ R ys c. decided cut side dump from R all next rule here e e_is ys s past found c v is (ys ++ (s', v) ∷ []) (rw z refl)) h
+
+    pub gave_left : (n : ℕ) → RowIs (Row.Leave n) → (s' : S) → s' ≡ cut s (Not e) → (past' : List (Expr P)) → past' ≡ past ++ Not e ∷ [] →
+        (found' : List (Escape P)) → found' ≡ found ++ escape past n e [] → Gave (next + 1) k s' past' found'
+    gave_left n is s' z past' p found' f = gave_more next (next + 1) k k s s' past past' found found' (λ ys. ys) (λ ys g. g)
+        (λ R ys c. left cut side dump from R all next rule here e e_is ys s past found c n is s' z past' p found' f) h
+
+    -- a block, from what the calls say
+    module _ (code : Tree P) (inside : S) (i : inside ≡ cut s e) (k' : K) (put : (ys : List (S × Bool)) → given k ys → given k' (ys ++ stream cut inside code))
+        (xs : List (Escape P)) (x : xs ≡ escapes [] code) (s' : S) (z : s' ≡ cut_all cut s (stayed e xs))
+        (past' : List (Expr P)) (p : past' ≡ past ++ stayed e xs) (found' : List (Escape P)) (f : found' ≡ found ++ carried past e xs) where
+      pub gave_ran : (callee : ℕ) (inner : Mode) → RowIs (Row.Run callee inner) → tree side dump (from.depth - 1) callee inner ≡ code → Gave (next + 1) k' s' past' found'
+      gave_ran callee inner is code_is = gave_more next (next + 1) k k' s s' past past' found found' (λ ys. ys ++ stream cut inside code) put
+          (λ R ys c. ran cut side dump from R all next rule here e e_is ys s past found c callee inner is code code_is
+          (ys ++ stream cut inside code) (rw i refl) xs x s' z past' p found' f) h
+
+      pub gave_left_later : RowIs Row.LeaveLater → code ≡ items_from side dump (moved from (next + 1) (Soft 0)) → (s'' : S) → s'' ≡ cut s' (Not e) →
+          (past'' : List (Expr P)) → past'' ≡ past' ++ Not e ∷ [] → (found'' : List (Escape P)) → found'' ≡ found' ++ escape past' 0 e [] → Gave (next + 1) k' s'' past'' found''
+      gave_left_later is code_is s'' z' past'' p' found'' f' = gave_more next (next + 1) k k' s s'' past past'' found found'' (λ ys. ys ++ stream cut inside code) put
+          (λ R ys c. left_later cut side dump from R all next rule here e e_is ys s past found c is
+          (ys ++ stream cut inside code) (rw (i, code_is) refl) xs (x ∙ ap (escapes []) code_is) s' z past' p found' f s'' z' past'' p' found'' f') h

@@ -1,19 +1,19 @@
 -- Each primitive of the flat list stands in a known literal of a rule that is reached.
 use Rattle.std.proofs.Common.{◌≡◌, ℕ, zero, suc, Bool, true, false, List, [], ◌∷◌, ◌++◌, map, Some, slice_get, Contains, if◌then◌else◌, refl, sym, ◌∙◌, ap, subst, arith}
 use Rattle.std.specs.List.{AllByRecursion}
+use Rattle.basics.proofs.Lists.{each_append, each_contained, each_more}
 use Rattle.match_expr.specs.declared.expr.Expr.{Expr}
 use Rattle.match_expr.specs.declared.expr.Expr.TheOpen.{Expr-F}
 use Rattle.match_expr.specs.declared.expr.Expr.TheFolds.{fold-roll-Expr}
 use Rattle.match_expr.specs.declared.expr.Expr.TheVariants.{All, Not, rolls-All, rolls-Not}
 use Rattle.match_expr.specs.declared.expr.FlatRule.{FlatRule}
-use Rattle.fw_rule.specs.declared.rule.Action.{Action}
 use Rattle.fw_rule.specs.declared.rule.Lit.{Lit}
 use Rattle.fw_rule.specs.declared.rule.Rule.{Rule}
 use Rattle.fw_rule.specs.declared.rule.Dump.{Dump}
 use Rattle.fw_rule.specs.Matching.{known_of, known_in, doubt_in}
-use Rattle.fw_rule.specs.Walk.{Reaches, Here, RuleOf}
+use Rattle.fw_rule.specs.Walk.{Reaches, Here, RuleOf, target_of}
 use Rattle.fw_rule.proofs.Ends.{append}
-use Rattle.closure.specs.declared.sides.Side.{Side}
+use Rattle.fw_rule.specs.declared.side.Side.{Side}
 use Rattle.closure.specs.declared.modes.Escape.{Escape}
 use Rattle.closure.specs.declared.modes.Mode.{Mode}
 use Rattle.closure.specs.declared.modes.Mode.TheVariants.{Soft}
@@ -24,14 +24,6 @@ use Rattle.match_expr.specs.Primitives.{joined, listed, primitives_in}
 use Rattle.closure.specs.Sources.{IsKnown, AreKnown}
 use Rattle.closure.proofs.FlatLemmas.{run_kind, calls}
 use Rattle.closure.proofs.Depths.{stands}
-
-each_append : {X : Type 0} (Q : X → Type 0) (a b : List X) → AllByRecursion Q a → AllByRecursion Q b → AllByRecursion Q (a ++ b)
-each_append Q [] b x y = y
-each_append Q (e ∷ a) b x y = (x.0, each_append Q a b x.1 y)
-
-pub each_contained : {X : Type 0} (Q : X → Type 0) (xs : List X) → ((x : X) → Contains xs x → Q x) → AllByRecursion Q xs
-each_contained Q [] f = tt
-each_contained Q (x ∷ xs) f = (f x (zero, omega arith, refl), each_contained Q xs (λ y c. f y (suc c.0, omega (arith, c.1), c.2)))
 
 -- what goes over from parts to their All and their Not goes over from the items of a tree to its flat list
 module _ {P : Type 0} (Q : Expr P → Type 0) (of_all : (es : List (Expr P)) → AllByRecursion Q es → Q (All es)) (of_not : (e : Expr P) → Q e → Q (Not e)) where
@@ -50,15 +42,12 @@ module _ {P : Type 0} (Q : Expr P → Type 0) (of_all : (es : List (Expr P)) →
   abbrev Rules : List (FlatRule P) → Type 0
   Rules rules = AllByRecursion (λ (rule : FlatRule P). Q rule.expr) rules
 
-  each_more : (a : List (Expr P)) (e : Expr P) → Each a → Q e → Each (a ++ e ∷ [])
-  each_more a e x q = each_append Q a (e ∷ []) x (q, tt)
-
   both : (e x : Expr P) → Q e → Q x → Q (All (e ∷ x ∷ []))
   both e x a b = of_all (e ∷ x ∷ []) (a, (b, tt))
 
   one_escape : (past : List (Expr P)) (n : ℕ) (e : Expr P) (rest : List (Escape P)) → Each past → Q e → Escapes rest → Escapes (escape past n e rest)
   one_escape past zero e rest p q r = r
-  one_escape past (suc n) e rest p q r = (of_all (past ++ e ∷ []) (each_more past e p q), r)
+  one_escape past (suc n) e rest p q r = (of_all (past ++ e ∷ []) (each_more Q past e p q), r)
 
   all_carried : (past : List (Expr P)) (e : Expr P) (xs : List (Escape P)) → Each past → Q e → Escapes xs → Escapes (carried past e xs)
   all_carried past e [] p q s = tt
@@ -73,7 +62,7 @@ module _ {P : Type 0} (Q : Expr P → Type 0) (of_all : (es : List (Expr P)) →
   all_escapes past Done p i = tt
   all_escapes past (Decide e v rest) p i = all_escapes past rest p i.1
   all_escapes past (Leave e n rest) p i =
-      one_escape past n e (escapes (past ++ Not e ∷ []) rest) p i.0 (all_escapes (past ++ Not e ∷ []) rest (each_more past (Not e) p (of_not e i.0)) i.1)
+      one_escape past n e (escapes (past ++ Not e ∷ []) rest) p i.0 (all_escapes (past ++ Not e ∷ []) rest (each_more Q past (Not e) p (of_not e i.0)) i.1)
   all_escapes past (Block e inner rest) p i =
       let inside = all_escapes [] inner tt i.1 in
       each_append (λ (x : Escape P). Q x.condition) (carried past e (escapes [] inner)) (escapes (past ++ stayed e (escapes [] inner)) rest)
@@ -83,11 +72,11 @@ module _ {P : Type 0} (Q : Expr P → Type 0) (of_all : (es : List (Expr P)) →
   all_flat : (around past : List (Expr P)) (tree : Tree P) → Each around → Each past → Items tree → Rules (flat_of around past tree)
   all_flat around past Done a p i = tt
   all_flat around past (Decide e v rest) a p i =
-      (of_all (around ++ past ++ e ∷ []) (each_more (around ++ past) e (each_append Q around past a p) i.0), all_flat around past rest a p i.1)
-  all_flat around past (Leave e n rest) a p i = all_flat around (past ++ Not e ∷ []) rest a (each_more past (Not e) p (of_not e i.0)) i.1
+      (of_all (around ++ past ++ e ∷ []) (each_more Q (around ++ past) e (each_append Q around past a p) i.0), all_flat around past rest a p i.1)
+  all_flat around past (Leave e n rest) a p i = all_flat around (past ++ Not e ∷ []) rest a (each_more Q past (Not e) p (of_not e i.0)) i.1
   all_flat around past (Block e inner rest) a p i =
       each_append (λ (rule : FlatRule P). Q rule.expr) (flat_of (around ++ past ++ e ∷ []) [] inner) (flat_of around (past ++ stayed e (escapes [] inner)) rest)
-      (all_flat (around ++ past ++ e ∷ []) [] inner (each_more (around ++ past) e (each_append Q around past a p) i.0) tt i.1)
+      (all_flat (around ++ past ++ e ∷ []) [] inner (each_more Q (around ++ past) e (each_append Q around past a p) i.0) tt i.1)
       (all_flat around (past ++ stayed e (escapes [] inner)) rest a
       (each_append Q past (stayed e (escapes [] inner)) p (all_stayed e (escapes [] inner) i.0 (all_escapes [] inner tt i.1))) i.2)
 
@@ -101,7 +90,7 @@ module _ {P : Type 0} (Q : Expr P → Type 0) (of_all : (es : List (Expr P)) →
     row_items callee k rest mode (Row.Run c m) q behind called = (q, called c m refl, behind mode)
 
     rules_items : (callee : ℕ → Mode → Tree P) (rules : List (Rule P)) →
-        ((i : ℕ) (rule : Rule P) → slice_get rules i ≡ Some rule → Q (known_of rule) × ((k : ℕ) (m : Mode) → rule.action ≡ Action.Call k → Items (callee k m))) →
+        ((i : ℕ) (rule : Rule P) → slice_get rules i ≡ Some rule → Q (known_of rule) × ((k : ℕ) (m : Mode) → target_of rule.action ≡ Some k → Items (callee k m))) →
         (mode : Mode) → Items (items side callee rules mode)
     rules_items callee [] each mode = tt
     rules_items callee (rule ∷ rules) each mode =

@@ -4,21 +4,18 @@ use Rattle.match_expr.specs.Meaning.{eval_of}
 use Rattle.match_expr.specs.FirstMatch.{first_match}
 use Rattle.fw_rule.specs.declared.rule.Verdict.{Verdict}
 use Rattle.fw_rule.specs.declared.rule.Verdict.TheVariants.{Accept}
-use Rattle.fw_rule.specs.declared.rule.Action.{Action}
 use Rattle.fw_rule.specs.declared.rule.Rule.{Rule}
-use Rattle.fw_rule.specs.declared.rule.Chain.{Chain}
 use Rattle.fw_rule.specs.declared.rule.Dump.{Dump}
-use Rattle.fw_rule.specs.Walk.{Meaning, Walks, Settled, Within, Reaches, Here}
+use Rattle.fw_rule.specs.Walk.{Meaning, Walks, Settled, Within, Reaches, Here, is_accept, policy_of, target_of}
 use Rattle.fw_rule.proofs.Ends.{append}
-use Rattle.closure.specs.declared.sides.Side.{Side}
+use Rattle.fw_rule.specs.declared.side.Side.{Side}
 use Rattle.fw_rule.specs.Matching.{known_of, doubt_in}
 use Rattle.closure.specs.Rewriting.{kind, rules_of, tree}
 use Rattle.closure.specs.declared.modes.Mode.TheVariants.{Hard}
 use Rattle.closure.specs.Flat.{flat_list}
-use Rattle.closure.specs.Outcomes.{Outcome, best_row, best_rules, best, Truth, under, step_of, lits_hold, walked_rules, walked}
-use Rattle.closure.specs.Sides.{is_accept, IsSure}
+use Rattle.closure.proofs.Outcomes.{Outcome, best_row, best_rules, best, Truth, under, step_of, lits_hold, walked_rules, walked, truth_of}
+use Rattle.closure.specs.Sides.{IsSure}
 use Rattle.closure.proofs.Bounds.{sure_rule}
-use Rattle.closure.specs.Laws.{truth_of}
 use Rattle.closure.proofs.Tightness.{row_if}
 use Rattle.closure.proofs.Depths.{stands}
 use Rattle.closure.proofs.Exact.{accepts, list_has, accepting, accepted}
@@ -26,7 +23,7 @@ use Rattle.closure.proofs.FlatLemmas.{calls}
 
 module _ {P : Type 0} (side : Side) (h : P → Bool) where
   sure_rules : (callee : ℕ → Truth → Outcome) (best_callee : ℕ → Outcome) (c n : ℕ) (t : Truth) (rules : List (Rule P)) →
-      ((i : ℕ) (rule : Rule P) → slice_get rules i ≡ Some rule → (doubt_in rule.lits ≡ false) × ((k : ℕ) (u : Truth) → rule.action ≡ Action.Call k → callee k u ≡ best_callee k)) →
+      ((i : ℕ) (rule : Rule P) → slice_get rules i ≡ Some rule → (doubt_in rule.lits ≡ false) × ((k : ℕ) (u : Truth) → target_of rule.action ≡ Some k → callee k u ≡ best_callee k)) →
       walked_rules side h callee c n t rules ≡ best_rules side h best_callee rules
   sure_rules callee best_callee c n t [] each = refl
   sure_rules callee best_callee c n t (rule ∷ rules) each =
@@ -45,13 +42,13 @@ module _ {P : Type 0} (side : Side) (h : P → Bool) where
       (sure c rule r there, λ k u a. sure_walked dump asked sure depth k (append dump r (rule, there, a)) u))
 
 module _ {P Packet : Type 0} (holds : P → Packet → Bool) (dump : Dump P) (c depth : ℕ) (settled : Settled dump c) (within : Within dump depth c)
-    (here : Chain P) (policy : Verdict) (at_c : slice_get dump.chains c ≡ Some here) (policy_is : here.policy ≡ Some policy) (sure : IsSure dump c) where
+    (policy : Verdict) (policy_is : policy_of dump c ≡ Some policy) (sure : IsSure dump c) where
   -- without doubtful rules the list accepts exactly where the walk does, whatever the meaning
   pub sure_closes : (side : Side) (p : Packet) (m : Meaning) →
       (unwrap_or (first_match (λ x. holds x p) (flat_list (tree side dump depth c Hard))) (is_accept policy) ≡ true) ↔ Walks holds dump p m c Accept
   sure_closes side p m =
       let same : walked side (λ x. holds x p) dump depth c (truth_of m) ≡ best side (λ x. holds x p) dump depth c = sure_walked side (λ x. holds x p) dump c sure depth c Here (truth_of m) in
-      let list = list_has holds dump c depth settled within here policy at_c policy_is side p in (
-        λ e. accepting holds dump c depth settled within here policy at_c policy_is side p m (ap (accepts side policy) same ∙ sym list ∙ e),
-        λ w. list ∙ sym (ap (accepts side policy) same) ∙ accepted holds dump c depth settled within here policy at_c policy_is side p m w,
+      let list = list_has holds dump c depth settled within policy policy_is side p in (
+        λ e. accepting holds dump c depth settled within policy policy_is side p m (ap (accepts side policy) same ∙ sym list ∙ e),
+        λ w. list ∙ sym (ap (accepts side policy) same) ∙ accepted holds dump c depth settled within policy policy_is side p m w,
       )

@@ -12,16 +12,16 @@ use Rattle.closure.specs.declared.modes.Mode.{Mode}
 use Rattle.closure.specs.declared.modes.Mode.TheVariants.{Soft}
 use Rattle.closure.specs.declared.modes.Row.{Row}
 use Rattle.closure.specs.declared.modes.RulesFrom.{RulesFrom}
-use Rattle.closure.specs.declared.sides.Side.{Side}
+use Rattle.fw_rule.specs.declared.side.Side.{Side}
 use Rattle.closure.specs.declared.tally.Way.{Way}
 use Rattle.closure.specs.Rewriting.{Tree, kind, row_of, tree, rules_of}
-use Rattle.closure.specs.Items.{items_from}
-use Rattle.closure.specs.Counts.{capped}
+use Rattle.closure.specs.inner.Items.{items_from}
+use Rattle.closure.specs.inner.Counts.{capped}
 use Rattle.closure.specs.Flat.{escape, carried, stayed, escapes}
 use Rattle.closure.specs.Stream.{cut_all, stream}
-use Rattle.closure.specs.Totals.{with_literals, total_of}
-use Rattle.closure.specs.Ways as ways
-use Rattle.closure.specs.Ways.{way_of}
+use Rattle.closure.specs.inner.Totals.{with_literals, total_of}
+use Rattle.closure.specs.inner.Ways as ways
+use Rattle.closure.specs.inner.Ways.{way_of}
 use Rattle.closure.proofs.FlatLemmas.{escape_first}
 use Rattle.closure.proofs.Streams.{cut_append}
 use Rattle.closure.proofs.Passing.{Completes, moved, all_passed, skipped, decided, left, left_later, ran}

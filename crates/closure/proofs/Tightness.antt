@@ -3,22 +3,21 @@ use Rattle.std.proofs.Common.{◌≡◌, ℕ, zero, suc, ◌+◌, ◌<◌, ◌�
 use Rattle.std.specs.Cmp.Lexicographic.{pointwise}
 use Rattle.std.proofs.lemmas.List.Folds.{list_any-append}
 use Rattle.std.proofs.lemmas.Bool.Decides.{nat_tests}
+use Rattle.basics.proofs.Truths.{and_assoc, and_false, or_right}
 use Rattle.match_expr.specs.Meaning.{eval_of, every}
-use Rattle.match_expr.specs.declared.expr.Expr.{Expr}
-use Rattle.match_expr.specs.declared.expr.Expr.TheVariants.{Not}
-use Rattle.match_expr.proofs.Equations.{eval-All, eval-Not}
+use Rattle.match_expr.proofs.Equations.{eval-All}
 use Rattle.fw_rule.specs.declared.rule.Lit.{Lit}
 use Rattle.fw_rule.specs.declared.rule.Rule.{Rule}
 use Rattle.fw_rule.specs.declared.rule.Dump.{Dump}
 use Rattle.fw_rule.specs.declared.rule.Step.{Step}
 use Rattle.fw_rule.specs.Walk.{Meaning, same_step, same_place}
-use Rattle.closure.specs.declared.sides.Side.{Side}
+use Rattle.fw_rule.specs.declared.side.Side.{Side}
 use Rattle.fw_rule.specs.Matching.{known_of, known_in, doubt_in}
 use Rattle.closure.specs.Rewriting.{kind, rules_of}
-use Rattle.closure.specs.declared.modes.Kind.{Kind}
-use Rattle.closure.specs.declared.modes.Kind.TheVariants.{GoodVerdict, BadVerdict, GoOn, GoBack, CallTo}
-use Rattle.closure.specs.Laws.{truth_of}
-use Rattle.closure.specs.Outcomes.{Outcome, Good, Ends, Bad, then_rest, or_rest, best_row, best_rules, best, Truth, under, step_of, lits_hold, walked_rules, walked}
+use Rattle.closure.specs.declared.modes.ActionKind.{ActionKind}
+use Rattle.closure.specs.declared.modes.ActionKind.TheVariants.{GoodVerdict, BadVerdict, GoOn, GoBack, CallTo}
+use Rattle.closure.proofs.Bounds.{of_known}
+use Rattle.closure.proofs.Outcomes.{truth_of, Outcome, Good, Ends, Bad, then_rest, or_rest, best_row, best_rules, best, Truth, under, step_of, lits_hold, walked_rules, walked}
 
 -- the same places, one call further down
 abbrev pub below : Step → Meaning → Meaning
@@ -30,10 +29,6 @@ abbrev pub places : {P : Type 0} → Step → ℕ → List (Lit P) → Meaning
 places s l [] = []
 places s l (Lit.Known neg x ∷ lits) = places s (l + 1) lits
 places s l (Lit.Unknown text ∷ lits) = record { steps = s ∷ []; lit = l } ∷ places s (l + 1) lits
-
-and_false : (a : Bool) → (a && false) ≡ false
-and_false true = refl
-and_false false = refl
 
 same_number : (n : ℕ) → eqb n n ≡ true
 same_number n = grind (arith, nat_tests)
@@ -77,23 +72,15 @@ places_other s l [] r steps k e = refl
 places_other s l (Lit.Known neg x ∷ lits) r steps k e = places_other s (l + 1) lits r steps k e
 places_other s l (Lit.Unknown text ∷ lits) r steps k e = rw e (places_other s (l + 1) lits r steps k e)
 
-or_more : (a b : Bool) → b ≡ true → (a || b) ≡ true
-or_more true b e = refl
-or_more false b e = e
-
 module _ {P : Type 0} (h : P → Bool) where
-  of_known : (neg : Bool) (x : Expr P) → eval_of h (if neg then Not x else x) ≡ (if neg then not (eval_of h x) else eval_of h x)
-  of_known true x = eval-Not h x
-  of_known false x = refl
-
   -- where the places of the rule hold, its known literals decide
   chosen : (t : Truth) (s : Step) (l : ℕ) (lits : List (Lit P)) → ((k : ℕ) → truth_of (places s l lits) (s ∷ []) k ≡ true → t (s ∷ []) k ≡ true) →
       lits_hold h t (s ∷ []) l lits ≡ every (map (eval_of h) (known_in lits))
   chosen t s l [] up = refl
-  chosen t s l (Lit.Known neg x ∷ lits) up = rw (of_known neg x, chosen t s (l + 1) lits up) refl
+  chosen t s l (Lit.Known neg x ∷ lits) up = rw (of_known h neg x, chosen t s (l + 1) lits up) refl
   chosen t s l (Lit.Unknown text ∷ lits) up =
       rw (up l (here (truth_of (places s (l + 1) lits) (s ∷ []) l)))
-      (chosen t s (l + 1) lits (λ k e. up k (or_more (same_place (record { steps = s ∷ []; lit = k }) (record { steps = s ∷ []; lit = l })) (truth_of (places s (l + 1) lits) (s ∷ []) k) e)))
+      (chosen t s (l + 1) lits (λ k e. up k (or_right (same_place (record { steps = s ∷ []; lit = k }) (record { steps = s ∷ []; lit = l })) (truth_of (places s (l + 1) lits) (s ∷ []) k) e)))
     where
       here : (b : Bool) → (same_place (record { steps = s ∷ []; lit = l }) (record { steps = s ∷ []; lit = l }) || b) ≡ true
       here b = rw (same_number s.chain, same_number s.rule, same_number l) refl
@@ -102,12 +89,8 @@ module _ {P : Type 0} (h : P → Bool) where
   left_out : (t : Truth) (s : Step) (l : ℕ) (lits : List (Lit P)) → ((k : ℕ) → t (s ∷ []) k ≡ false) →
       lits_hold h t (s ∷ []) l lits ≡ (every (map (eval_of h) (known_in lits)) && not (doubt_in lits))
   left_out t s l [] none = refl
-  left_out t s l (Lit.Known neg x ∷ lits) none = rw (of_known neg x, left_out t s (l + 1) lits none)
-      (assoc (if neg then not (eval_of h x) else eval_of h x) (every (map (eval_of h) (known_in lits))) (not (doubt_in lits)))
-    where
-      assoc : (x y z : Bool) → (x && (y && z)) ≡ ((x && y) && z)
-      assoc true y z = refl
-      assoc false y z = refl
+  left_out t s l (Lit.Known neg x ∷ lits) none = rw (of_known h neg x, left_out t s (l + 1) lits none)
+      (sym (and_assoc (if neg then not (eval_of h x) else eval_of h x) (every (map (eval_of h) (known_in lits))) (not (doubt_in lits))))
   left_out t s l (Lit.Unknown text ∷ lits) none = rw (none l) (sym (and_false (every (map (eval_of h) (known_in lits)))))
 
   lits_cong : (t u : Truth) (steps : List Step) (l : ℕ) (lits : List (Lit P)) → ((k : ℕ) → t steps k ≡ u steps k) → lits_hold h t steps l lits ≡ lits_hold h u steps l lits
@@ -115,14 +98,14 @@ module _ {P : Type 0} (h : P → Bool) where
   lits_cong t u steps l (Lit.Known neg x ∷ lits) e = rw (lits_cong t u steps (l + 1) lits e) refl
   lits_cong t u steps l (Lit.Unknown text ∷ lits) e = rw (e l, lits_cong t u steps (l + 1) lits e) refl
 
-row_same : (f g : ℕ → Outcome) (x y : Outcome) → x ≡ y → (what : Kind) → ((c : ℕ) → what ≡ CallTo c → f c ≡ g c) → best_row f x false what ≡ best_row g y false what
+row_same : (f g : ℕ → Outcome) (x y : Outcome) → x ≡ y → (what : ActionKind) → ((c : ℕ) → what ≡ CallTo c → f c ≡ g c) → best_row f x false what ≡ best_row g y false what
 row_same f g x y e GoodVerdict q = refl
 row_same f g x y e BadVerdict q = refl
 row_same f g x y e GoOn q = e
 row_same f g x y e GoBack q = refl
 row_same f g x y e (CallTo c) q = rw (q c refl, e) refl
 
-pub row_if : (b b' : Bool) (f g : ℕ → Outcome) (x y : Outcome) → b ≡ b' → x ≡ y → (what : Kind) → ((c : ℕ) → what ≡ CallTo c → f c ≡ g c) →
+pub row_if : (b b' : Bool) (f g : ℕ → Outcome) (x y : Outcome) → b ≡ b' → x ≡ y → (what : ActionKind) → ((c : ℕ) → what ≡ CallTo c → f c ≡ g c) →
     (if b then best_row f x false what else x) ≡ (if b' then best_row g y false what else y)
 row_if true true f g x y q e what r = row_same f g x y e what r
 row_if true false f g x y q e what r = absurd (true≢false q)
@@ -152,7 +135,7 @@ module _ {P : Type 0} (side : Side) (h : P → Bool) where
   walked_cong dump (suc depth) c t u e = rules_cong (walked side h dump depth) (walked_cong dump depth) c 0 t u (rules_of dump c) (λ j steps l g. e (step_of c j) steps l)
 
 -- whether a doubtful rule is to match, by what its callee and the rest can come to
-abbrev choice : (ℕ → Outcome) → Outcome → Kind → Bool
+abbrev choice : (ℕ → Outcome) → Outcome → ActionKind → Bool
 choice f r GoodVerdict = true
 choice f r BadVerdict = false
 choice f r GoOn = false
@@ -166,7 +149,7 @@ choice f r (CallTo c) = is_good (f c)
     is_good Ends = false
     is_good Bad = false
 
-choice_right : (f : ℕ → Outcome) (r : Outcome) (what : Kind) (k d : Bool) →
+choice_right : (f : ℕ → Outcome) (r : Outcome) (what : ActionKind) (k d : Bool) →
     (if k && (not d || choice f r what) then best_row f r false what else r) ≡ (if k then best_row f r d what else r)
 choice_right f r what false d = refl
 choice_right f r what true false = refl
@@ -255,10 +238,10 @@ abbrev pub Tight : (Truth → Outcome) → Outcome → Type 0
 Tight comes o = (m : Meaning) × ((l : ℕ) → truth_of m [] l ≡ false) × (comes (truth_of m) ≡ o)
 
 -- of a rule: a meaning of the chain that it calls, if it calls one
-abbrev Below : (ℕ → Truth → Outcome) → (ℕ → Outcome) → Kind → Type 0
+abbrev Below : (ℕ → Truth → Outcome) → (ℕ → Outcome) → ActionKind → Type 0
 Below callee best_callee what = (m : Meaning) × ((l : ℕ) → truth_of m [] l ≡ false) × ((k : ℕ) → what ≡ CallTo k → callee k (truth_of m) ≡ best_callee k)
 
-of_kind : (callee : ℕ → Truth → Outcome) (best_callee : ℕ → Outcome) → ((k : ℕ) → Tight (callee k) (best_callee k)) → (what : Kind) → Below callee best_callee what
+of_kind : (callee : ℕ → Truth → Outcome) (best_callee : ℕ → Outcome) → ((k : ℕ) → Tight (callee k) (best_callee k)) → (what : ActionKind) → Below callee best_callee what
 of_kind callee best_callee hc GoodVerdict = ([], λ l. refl, λ k e. cc)
 of_kind callee best_callee hc BadVerdict = ([], λ l. refl, λ k e. cc)
 of_kind callee best_callee hc GoOn = ([], λ l. refl, λ k e. cc)

@@ -12,8 +12,8 @@ use Rattle.fw_rule.specs.Matching.{known_in}
 use Rattle.closure.specs.Rewriting.{Tree}
 use Rattle.closure.specs.Flat.{flat_list, literals_in}
 use Rattle.closure.specs.Stream.{cut_all, cut_out, stream}
-use Rattle.closure.specs.Counts.{capped}
-use Rattle.closure.specs.Totals.{with_literals, total_of, lit_count}
+use Rattle.closure.specs.inner.Counts.{capped}
+use Rattle.closure.specs.inner.Totals.{with_literals, total_of, lit_count}
 use Rattle.closure.proofs.Streams.{stream_is}
 
 added : (n k : ℕ) → capped (capped n + k) ≡ capped (n + k)

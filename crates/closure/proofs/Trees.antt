@@ -4,15 +4,15 @@ use Rattle.match_expr.specs.Meaning.{eval_of}
 use Rattle.match_expr.specs.declared.expr.Expr.{Expr}
 use Rattle.fw_rule.specs.declared.rule.Rule.{Rule}
 use Rattle.fw_rule.specs.declared.rule.Dump.{Dump}
-use Rattle.closure.specs.declared.sides.Side.{Side}
+use Rattle.fw_rule.specs.declared.side.Side.{Side}
 use Rattle.fw_rule.specs.Matching.{known_of, doubt_in}
-use Rattle.closure.specs.Rewriting.{Tree, Ran, Says, Leaves, Through, after_block, ran, kind, row_of, shape, items, rules_of, tree}
-use Rattle.closure.specs.declared.modes.Kind.{Kind}
-use Rattle.closure.specs.declared.modes.Kind.TheVariants.{GoodVerdict, BadVerdict, GoOn, GoBack, CallTo}
+use Rattle.closure.specs.Rewriting.{Tree, kind, row_of, shape, items, rules_of, tree}
+use Rattle.closure.proofs.Runs.{says, Ran, Says, Leaves, Through, after_block, ran, settle, expected}
+use Rattle.closure.specs.declared.modes.ActionKind.{ActionKind}
+use Rattle.closure.specs.declared.modes.ActionKind.TheVariants.{GoodVerdict, BadVerdict, GoOn, GoBack, CallTo}
 use Rattle.closure.specs.declared.modes.Mode.{Mode}
 use Rattle.closure.specs.declared.modes.Mode.TheVariants.{Hard, Soft}
-use Rattle.closure.specs.Laws.{settle, expected}
-use Rattle.closure.specs.Outcomes.{Outcome, Good, Ends, Bad, or_end, then_rest, or_rest, best_row, best_rules, best}
+use Rattle.closure.proofs.Outcomes.{Outcome, Good, Ends, Bad, or_end, then_rest, or_rest, best_row, best_rules, best}
 
 settle_after : (r x : Ran) → settle (after_block r x) ≡ settle (after_block (settle r) (settle x))
 settle_after (Says v) x = refl
@@ -71,7 +71,7 @@ module _ (side : Side) where
 
   module _ {P : Type 0} (h : P → Bool) (callee : ℕ → Mode → Tree P) (k : Expr P) (rest : Mode → Tree P) where
     -- where the known literals don't hold, the rest is tried
-    row_missed : eval_of h k ≡ false → (d : Bool) (what : Kind) (mode : Mode) → ran h (shape callee k rest mode (row_of side d what mode)) ≡ ran h (rest mode)
+    row_missed : eval_of h k ≡ false → (d : Bool) (what : ActionKind) (mode : Mode) → ran h (shape callee k rest mode (row_of side d what mode)) ≡ ran h (rest mode)
     row_missed e false GoodVerdict mode = rw e refl
     row_missed e true GoodVerdict mode = rw e refl
     row_missed e false BadVerdict Hard = rw e refl
@@ -90,7 +90,7 @@ module _ (side : Side) where
     module _ (callee_best : ℕ → Outcome) (rest_best : Outcome)
         (callee_is : (c : ℕ) (mode : Mode) → settle (ran h (callee c mode)) ≡ expected side mode (callee_best c))
         (rest_is : (mode : Mode) → settle (ran h (rest mode)) ≡ expected side mode rest_best) where
-      row_taken : eval_of h k ≡ true → (d : Bool) (what : Kind) (mode : Mode) →
+      row_taken : eval_of h k ≡ true → (d : Bool) (what : ActionKind) (mode : Mode) →
           settle (ran h (shape callee k rest mode (row_of side d what mode))) ≡ expected side mode (best_row callee_best rest_best d what)
       row_taken e false GoodVerdict mode = rw e refl
       row_taken e true GoodVerdict mode = rw e refl
@@ -120,7 +120,7 @@ module _ (side : Side) where
     by_known : (callee : ℕ → Mode → Tree P) (callee_best : ℕ → Outcome) (k : Expr P) (rest : Mode → Tree P) (rest_best : Outcome) →
         ((c : ℕ) (mode : Mode) → settle (ran h (callee c mode)) ≡ expected side mode (callee_best c)) →
         ((mode : Mode) → settle (ran h (rest mode)) ≡ expected side mode rest_best) →
-        (d : Bool) (what : Kind) (mode : Mode) (b : Bool) → eval_of h k ≡ b →
+        (d : Bool) (what : ActionKind) (mode : Mode) (b : Bool) → eval_of h k ≡ b →
         settle (ran h (shape callee k rest mode (row_of side d what mode))) ≡ expected side mode (if b then best_row callee_best rest_best d what else rest_best)
     by_known callee callee_best k rest rest_best callee_is rest_is d what mode true e = row_taken h callee k rest callee_best rest_best callee_is rest_is e d what mode
     by_known callee callee_best k rest rest_best callee_is rest_is d what mode false e = ap settle (row_missed h callee k rest e d what mode) ∙ rest_is mode
@@ -137,3 +137,13 @@ module _ (side : Side) where
     pub tree_comes : (dump : Dump P) (depth c : ℕ) (mode : Mode) → settle (ran h (tree side dump depth c mode)) ≡ expected side mode (best side h dump depth c)
     tree_comes dump zero c mode = refl
     tree_comes dump (suc depth) c mode = rules_come (tree side dump depth) (best side h dump depth) (tree_comes dump depth) (rules_of dump c) mode
+
+-- a verdict doesn't change where a leave at a block's end counts as its end
+settled_says : (r : Ran) → says r ≡ says (settle r)
+settled_says (Says v) = refl
+settled_says (Leaves zero) = refl
+settled_says (Leaves (suc n)) = refl
+settled_says Through = refl
+
+pub settle_says : {P : Type 0} (h : P → Bool) (tree : Tree P) → says (ran h tree) ≡ says (settle (ran h tree))
+settle_says h tree = settled_says (ran h tree)

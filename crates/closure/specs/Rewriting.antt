@@ -1,18 +1,18 @@
 -- The rewriting of a chain's rules into a tree of items.
-use Rattle.std.specs.Prelude.{ℕ, zero, suc, ◌+◌, Bool, true, false, if◌then◌else◌, List, [], ◌∷◌, Option, None, Some, slice_get}
-use Rattle.match_expr.specs.Meaning.{eval_of}
+use Rattle.std.specs.Prelude.{ℕ, zero, suc, ◌+◌, Bool, true, false, List, [], ◌∷◌, Option, None, Some, slice_get}
 use Rattle.match_expr.specs.declared.expr.Expr.{Expr}
+use Rattle.limits.specs.declared.TheConstants.{MOST_CHAINS}
 use Rattle.fw_rule.specs.declared.rule.Action.{Action}
 use Rattle.fw_rule.specs.declared.rule.Rule.{Rule}
 use Rattle.fw_rule.specs.declared.rule.Chain.{Chain}
 use Rattle.fw_rule.specs.declared.rule.Dump.{Dump}
 use Rattle.fw_rule.specs.Matching.{known_of, doubt_in}
-use Rattle.closure.specs.declared.modes.Kind.{Kind}
-use Rattle.closure.specs.declared.modes.Kind.TheVariants.{GoodVerdict, BadVerdict, GoOn, GoBack, CallTo}
+use Rattle.closure.specs.declared.modes.ActionKind.{ActionKind}
+use Rattle.closure.specs.declared.modes.ActionKind.TheVariants.{GoodVerdict, BadVerdict, GoOn, GoBack, CallTo}
 use Rattle.closure.specs.declared.modes.Mode.{Mode}
 use Rattle.closure.specs.declared.modes.Mode.TheVariants.{Hard, Soft}
 use Rattle.closure.specs.declared.modes.Row.{Row}
-use Rattle.closure.specs.declared.sides.Side.{Side}
+use Rattle.fw_rule.specs.declared.side.Side.{Side}
 
 -- items, one after another: a verdict, a way out of this block and `n` more, or a block of items
 pub data Tree (P : Type 0) : Type 0 where
@@ -20,26 +20,6 @@ pub data Tree (P : Type 0) : Type 0 where
   Decide : Expr P → Bool → Tree P → Tree P
   Leave : Expr P → ℕ → Tree P → Tree P
   Block : Expr P → Tree P → Tree P → Tree P
-
--- what items come to: a verdict, past the end of `n` blocks more than this one, or their own end
-pub data Ran : Type 0 where
-  Says : Bool → Ran
-  Leaves : ℕ → Ran
-  Through : Ran
-
--- what a block and the rest behind it come to
-abbrev pub after_block : Ran → Ran → Ran
-after_block (Says v) rest = Says v
-after_block (Leaves zero) rest = rest
-after_block (Leaves (suc n)) rest = Leaves n
-after_block Through rest = rest
-
--- what the items come to where `h` is the truth of primitives
-abbrev pub ran : {P : Type 0} → (P → Bool) → Tree P → Ran
-ran h Done = Through
-ran h (Decide e v rest) = if eval_of h e then Says v else ran h rest
-ran h (Leave e n rest) = if eval_of h e then Leaves n else ran h rest
-ran h (Block e inner rest) = if eval_of h e then after_block (ran h inner) (ran h rest) else ran h rest
 
 -- the number of items at all depths
 abbrev pub nodes : {P : Type 0} → Tree P → ℕ
@@ -49,7 +29,7 @@ nodes (Leave e n rest) = suc (nodes rest)
 nodes (Block e inner rest) = suc (nodes inner + nodes rest)
 
 -- what an action is to a side. An unsupported target does nothing here; a settled dump has none
-abbrev pub kind : Side → Action → Kind
+abbrev pub kind : Side → Action → ActionKind
 kind Side.Upper Action.Accept = GoodVerdict
 kind Side.Upper Action.Drop = BadVerdict
 kind Side.Lower Action.Accept = BadVerdict
@@ -69,15 +49,10 @@ abbrev pub bad : Side → Bool
 bad Side.Upper = false
 bad Side.Lower = true
 
--- how many enclosing blocks a bad verdict leaves beyond its own
-abbrev pub level : Mode → ℕ
-level Hard = 0
-level (Soft j) = j
-
 -- the table: what is made of a rule, doubtful or not, of this kind, in this mode. In Hard a bad verdict is a verdict; in Soft j it leaves its block and j enclosing ones more.
 -- A doubtful bad verdict never helps, so it is left out. A doubtful return may save from a bad verdict further down, so the rest is tried with bad verdicts that leave the block, and then once
 -- more behind it. A doubtful call may be passed over, so a bad verdict in it leaves its block alone. A sure call in Soft j is one block deeper.
-abbrev pub row_of : Side → Bool → Kind → Mode → Row
+abbrev pub row_of : Side → Bool → ActionKind → Mode → Row
 row_of side d GoodVerdict mode = Row.Decide (good side)
 row_of side false BadVerdict Hard = Row.Decide (bad side)
 row_of side false BadVerdict (Soft j) = Row.Leave j
@@ -120,7 +95,7 @@ tree side dump (suc depth) c mode = items side (tree side dump depth) (rules_of 
 
 -- the greatest number of chains on a call path: a check refuses a chain from which a longer one leads
 unfoldable pub greatest_depth : ℕ
-greatest_depth = 256
+greatest_depth = MOST_CHAINS
 
 -- the tree of a chain
 abbrev pub chain_tree : {P : Type 0} → Side → Dump P → ℕ → Tree P

@@ -1,17 +1,17 @@
-ghost use Rattle.std.specs.Prelude.{◌≡◌, ◌+◌, ◌-◌, ◌^◌, ◌<◌, ℕ, IfOk};
-ghost use Rattle.closure.specs.Counts as spec;
-ghost use Rattle.closure.specs.Counts.{capped, rules_items};
-ghost use Rattle.closure.specs.Counted.{AreCounted};
-ghost use Rattle.closure.specs.Rewriting.{chain_tree, level, nodes};
-ghost use Rattle.closure.specs.Checked.{IsChecked};
+ghost use Rattle.std.specs.Prelude.{◌≡◌, ◌+◌, ◌-◌, ◌^◌, ◌<◌, ℕ, min, IfOk};
+ghost use Rattle.closure.specs.inner.Counts as spec;
+ghost use Rattle.closure.specs.inner.Counts.{capped, rules_items};
+ghost use Rattle.closure.specs.inner.Counted.{AreCounted};
+ghost use Rattle.closure.specs.Rewriting.{chain_tree, nodes};
+ghost use Rattle.closure.specs.inner.Items.{level};
+ghost use Rattle.closure.specs.Checked.{IsRankedWithPolicy};
 
 use crate::modes::{Mode, Row};
 use crate::parts::kind_of;
 use crate::ranks::{has_rank, rank_of};
 use crate::rows::row_of;
-use crate::sides::Side;
 use chain_graph::Ranked;
-use fw_rule::{Dump, Rule, doubtful};
+use fw_rule::{Dump, Rule, Side, doubtful};
 use match_expr::Primitive;
 use std::alloc::{AllocError, Global};
 
@@ -106,7 +106,7 @@ fn count_rank<P: Primitive>(
     rank: u32,
     table: &mut [Counts],
 )
-    requires checked { IsChecked dump.now ranked.now.entry ranked.now }
+    requires checked { IsRankedWithPolicy dump.now ranked.now.entry ranked.now }
     requires lesser { AreCounted side dump.now ranked.now (rank - 1) table.old }
     ensures { AreCounted side dump.now ranked.now rank table.new }
 {
@@ -119,8 +119,8 @@ fn count_rank<P: Primitive>(
     }
 }
 
-/// The number of items of a chain's tree at all depths. It stops at 2^64 - 1. Nothing is built: the rules of each chain that is reached are summed up once, a called chain before those that
-/// call it.
+/// The number of items of a chain's tree at all depths. It stops at 2^64 - 1. Nothing is built: the rules of each chain
+/// that is reached are summed up once, a called chain before those that call it.
 pub fn count_nodes<P: Primitive>(
     alloc: Global,
     dump: &Dump<P>,
@@ -128,8 +128,8 @@ pub fn count_nodes<P: Primitive>(
     chain: u32,
     side: Side,
 ) -> Result<u64, AllocError>
-    requires { IsChecked dump.now chain ranked.now }
-    ensures { IfOk result (λ n. n ≡ capped (nodes (chain_tree side dump.now chain))) }
+    requires { IsRankedWithPolicy dump.now chain ranked.now }
+    ensures { IfOk result (λ n. n ≡ min (nodes (chain_tree side dump.now chain)) (2 ^ 64 - 1)) }
 {
     let mut table = vec![in alloc; NONE; dump.chains.as_slice().len()]?;
     let top = rank_of(ranked, chain);

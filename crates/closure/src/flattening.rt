@@ -1,16 +1,15 @@
 ghost use Rattle.std.specs.Prelude.{◌≡◌, ◌++◌, ◌∷◌, [], map, IfOk};
-ghost use Rattle.closure.specs.Checked.{IsChecked};
+ghost use Rattle.closure.specs.Checked.{IsRankedWithPolicy};
 ghost use Rattle.closure.specs.Rewriting.{chain_tree};
 ghost use Rattle.closure.specs.Flat.{flat_list};
-ghost use Rattle.closure.specs.Parts.{rule_of_parts};
+ghost use Rattle.closure.specs.inner.Parts.{rule_of_parts};
 
 use crate::cutting::State;
 use crate::modes::Parts;
 use crate::parts::behind;
-use crate::sides::Side;
 use crate::streaming::states_of;
 use chain_graph::Ranked;
-use fw_rule::Dump;
+use fw_rule::{Dump, Side};
 use match_expr::{Expr, FlatRule, Items, List, Primitive};
 use std::alloc::{AllocError, Global};
 
@@ -52,7 +51,7 @@ pub fn flat_rules<P: Primitive>(
     chain: u32,
     side: Side,
 ) -> Result<List<FlatRule<P>>, AllocError>
-    requires { IsChecked dump.now chain ranked.now }
+    requires { IsRankedWithPolicy dump.now chain ranked.now }
     ensures { IfOk result (λ rules. rules ≡ flat_list (chain_tree side dump.now chain)) }
 {
     let start = Parts {

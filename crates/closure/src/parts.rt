@@ -1,25 +1,24 @@
 ghost use Rattle.std.specs.Prelude.{◌≡◌, ◌++◌, ◌∷◌, [], IfOk, OnOk};
 ghost use Rattle.closure.specs.Rewriting as spec;
 
-use crate::modes::Kind;
-use crate::sides::Side;
-use fw_rule::Action;
+use crate::modes::ActionKind;
+use fw_rule::{Action, Side};
 use match_expr::{Expr, Primitive};
 use std::alloc::{AllocError, Global};
 
 /// What an action is to a side.
-pub fn kind_of(side: Side, action: &Action) -> Kind
+pub fn kind_of(side: Side, action: &Action) -> ActionKind
     ensures { result ≡ spec.kind side action.now }
 {
     match (side, action) {
-        (Side::Upper, Action::Accept) => Kind::GoodVerdict,
-        (Side::Upper, Action::Drop) => Kind::BadVerdict,
-        (Side::Lower, Action::Accept) => Kind::BadVerdict,
-        (Side::Lower, Action::Drop) => Kind::GoodVerdict,
-        (_, Action::Pass) => Kind::GoOn,
-        (_, Action::Back) => Kind::GoBack,
-        (_, Action::Call(callee)) => Kind::CallTo(*callee),
-        (_, Action::Other(_)) => Kind::GoOn,
+        (Side::Upper, Action::Accept) => ActionKind::GoodVerdict,
+        (Side::Upper, Action::Drop) => ActionKind::BadVerdict,
+        (Side::Lower, Action::Accept) => ActionKind::BadVerdict,
+        (Side::Lower, Action::Drop) => ActionKind::GoodVerdict,
+        (_, Action::Pass) => ActionKind::GoOn,
+        (_, Action::Back) => ActionKind::GoBack,
+        (_, Action::Call(callee)) => ActionKind::CallTo(*callee),
+        (_, Action::Other(_)) => ActionKind::GoOn,
     }
 }
 

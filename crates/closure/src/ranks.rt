@@ -1,5 +1,5 @@
 ghost use Rattle.std.specs.Prelude.{◌≡◌, ◌<◌, ◌↔◌, Some, slice_get, length, IsTrue};
-ghost use Rattle.closure.specs.Checked.{HasRank};
+ghost use Rattle.closure.specs.inner.Ranks.{HasRank};
 
 use chain_graph::Ranked;
 

@@ -1,19 +1,18 @@
 ghost use Rattle.std.specs.Prelude.{◌≡◌, ◌++◌, ◌<◌, ◌+◌, ◌^◌, Bool, List, [], IfOk, OnOk, map};
 ghost use Rattle.fw_rule.specs.Walk.{InSettled, Within};
-ghost use Rattle.closure.specs.Checked.{IsChecked};
-ghost use Rattle.closure.specs.Rewriting.{chain_tree, level};
+ghost use Rattle.closure.specs.Checked.{IsRankedWithPolicy};
+ghost use Rattle.closure.specs.Rewriting.{chain_tree};
+ghost use Rattle.closure.specs.inner.Items.{level, items_from};
 ghost use Rattle.closure.specs.Flat.{escapes, flat_list};
 ghost use Rattle.closure.specs.Stream.{stream, cut_out, IsCutByParts};
-ghost use Rattle.closure.specs.Items.{items_from};
 
 use crate::cutting::{Passed, Sink, State};
 use crate::modes::{Escape, Mode, Row, RulesFrom};
 use crate::parts::kind_of;
 use crate::ranks::rank_of;
 use crate::rows::row_of;
-use crate::sides::Side;
 use chain_graph::Ranked;
-use fw_rule::{Dump, doubtful, known};
+use fw_rule::{Dump, Side, doubtful, known};
 use match_expr::Primitive;
 use std::alloc::{AllocError, Global};
 
@@ -88,7 +87,7 @@ pub fn stream_to<P: Primitive, S: State<P>, K: Sink<S>>(
     start: S,
     out: &mut K,
 ) -> Result<(), AllocError>
-    requires { IsChecked dump.now chain ranked.now }
+    requires { IsRankedWithPolicy dump.now chain ranked.now }
     ensures tree { OnOk result ((xs : List (S × Bool)) → K.given out.old xs → K.given out.new (xs ++ stream S.left start (chain_tree side dump.now chain))) }
     ensures list { OnOk result (IsCutByParts S.left start → (xs : List (S × Bool)) → K.given out.old xs → K.given out.new (xs ++ map (cut_out S.left start) (flat_list (chain_tree side dump.now chain)))) }
 {
@@ -113,7 +112,7 @@ pub fn states_of<P: Primitive, S: State<P>>(
     side: Side,
     start: S,
 ) -> Result<Vec<(S, bool)>, AllocError>
-    requires { IsChecked dump.now chain ranked.now }
+    requires { IsRankedWithPolicy dump.now chain ranked.now }
     ensures tree { IfOk result (λ states. states.items ≡ stream S.left start (chain_tree side dump.now chain)) }
     ensures list { IfOk result (λ states. IsCutByParts S.left start → states.items ≡ map (cut_out S.left start) (flat_list (chain_tree side dump.now chain))) }
 {

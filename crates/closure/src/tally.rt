@@ -1,6 +1,6 @@
 ghost use Rattle.std.specs.Prelude.{◌≡◌, ◌+◌, ◌++◌, OnOk};
-ghost use Rattle.closure.specs.Counts.{capped};
-ghost use Rattle.closure.specs.Ways as spec;
+ghost use Rattle.closure.specs.inner.Counts.{capped};
+ghost use Rattle.closure.specs.inner.Ways as spec;
 
 use std::alloc::AllocError;
 

@@ -2,23 +2,22 @@ ghost use Rattle.std.specs.Prelude.{◌≡◌, ◌<◌, ◌+◌, ◌-◌, ◌^�
 ghost use Rattle.match_expr.specs.Meaning.{literal_count};
 ghost use Rattle.fw_rule.specs.Matching.{known_of};
 ghost use Rattle.fw_rule.specs.Walk.{InSettled, Within};
-ghost use Rattle.closure.specs.Checked.{IsChecked};
-ghost use Rattle.closure.specs.Counts.{capped};
-ghost use Rattle.closure.specs.Totals.{lit_count, total_of, with_literals};
-ghost use Rattle.closure.specs.Ways.{way_of};
-ghost use Rattle.closure.specs.Rewriting.{chain_tree, level};
+ghost use Rattle.closure.specs.Checked.{IsRankedWithPolicy};
+ghost use Rattle.closure.specs.inner.Counts.{capped};
+ghost use Rattle.closure.specs.inner.Totals.{lit_count, total_of, with_literals};
+ghost use Rattle.closure.specs.inner.Ways.{way_of};
+ghost use Rattle.closure.specs.Rewriting.{chain_tree};
+ghost use Rattle.closure.specs.inner.Items.{level, items_from};
 ghost use Rattle.closure.specs.Flat.{escapes, flat_list, literals_in};
 ghost use Rattle.closure.specs.Stream.{stream};
-ghost use Rattle.closure.specs.Items.{items_from};
 
 use crate::modes::{Mode, Row, RulesFrom};
 use crate::parts::kind_of;
 use crate::ranks::rank_of;
 use crate::rows::row_of;
-use crate::sides::Side;
 use crate::tally::Tally;
 use chain_graph::Ranked;
-use fw_rule::{Dump, Lit, Rule, doubtful};
+use fw_rule::{Dump, Lit, Rule, Side, doubtful};
 use match_expr::Primitive;
 use std::alloc::{AllocError, Global};
 
@@ -105,7 +104,7 @@ pub fn count_literals<P: Primitive>(
     chain: u32,
     side: Side,
 ) -> Result<u64, AllocError>
-    requires { IsChecked dump.now chain ranked.now }
+    requires { IsRankedWithPolicy dump.now chain ranked.now }
     ensures { IfOk result (λ n. n ≡ min (literals_in (flat_list (chain_tree side dump.now chain))) (2 ^ 64 - 1)) }
 {
     let whole = RulesFrom {

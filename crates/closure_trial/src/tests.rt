@@ -1,8 +1,8 @@
 use crate::asking::checked;
 use crate::dumps::{Is, PACKETS};
 use crate::trial::accepts;
-use closure::{FlatFault, Side, count_nodes, flat};
-use fw_rule::{Action, Chain, Dump, Lit, Rule, Verdict};
+use closure::{FlatFault, count_nodes, flat};
+use fw_rule::{Action, Chain, Dump, Lit, Rule, Side, Verdict};
 use match_expr::{Bytes, Expr, List};
 use std::alloc::{AllocError, Global};
 use std::process::Abort;

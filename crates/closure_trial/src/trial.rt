@@ -3,8 +3,8 @@ ghost use Rattle.match_expr.specs.FirstMatch.{first_match};
 
 use crate::asking::checked;
 use crate::dumps::{Is, PACKETS, Random, random_dump};
-use closure::{FlatFault, Side, flat};
-use fw_rule::{Dump, Verdict};
+use closure::{FlatFault, flat};
+use fw_rule::{Dump, Side, Verdict};
 use match_expr::FlatRule;
 use reckoner::reckon;
 use std::alloc::Global;

@@ -1,7 +1,7 @@
 -- A counter is parted at its colon and its last bracket in one way.
 use Rattle.std.proofs.Common.{◌≡◌, ◌≢◌, ◌++◌, ◌∷◌, [], ℕ, All, arith}
-use Rattle.addr_text.specs.Parts.{Lacks}
-use Rattle.addr_text.proofs.PartLemmas.{one_parting, lacks_none}
+use Rattle.basics.specs.Parts.{Lacks}
+use Rattle.basics.proofs.PartingLemmas.{one_parting, lacks_none}
 use Rattle.dump_grammar.specs.ChainLines.{IsCounterText, IsDigit}
 use Rattle.dump_grammar.specs.Lines.{Text}
 

@@ -1,58 +1,106 @@
--- A kind of option is known by its module and its name.
-use Rattle.std.proofs.Common.{◌≡◌, ◌∙◌, List, [], ◌∷◌, Bool, true, false, ◌&&◌, Some, None, refl, sym, ap}
-use Rattle.std.specs.List.{find}
-use Rattle.std.specs.Prelude.{if◌then◌else◌}
+-- The form of a known option is that of a kind.
+use Rattle.std.proofs.Common.{◌≡◌, ◌∙◌, ℕ, List, [], ◌∷◌, Bool, true, false, ◌&&◌, Option, Some, None, refl, sym, ap, subst}
+use Rattle.std.specs.List.{AllByRecursion, find}
+use Rattle.std.specs.Prelude.{if◌then◌else◌, option_map}
 use Rattle.std.specs.Str.{bytes_eq}
-use Rattle.std.proofs.lemmas.Slice.Eq.{bytes_eq-Decides}
-use Rattle.dump_grammar.specs.declared.kinds.Kind.{Kind}
-use Rattle.dump_grammar.specs.declared.kinds.Side.{Side}
-use Rattle.dump_grammar.specs.declared.kinds.Transport.{Transport}
-use Rattle.dump_grammar.specs.Kinds.{all_kinds, kind_of, module_name, option_name}
+use Rattle.opt_table.specs.declared.kind.Kind.{Kind}
+use Rattle.opt_table.specs.declared.kind.Side.{Side}
+use Rattle.opt_table.specs.declared.kind.Transport.{Transport}
+use Rattle.opt_table.specs.Options.{Form, Spelling, known_options}
+use Rattle.opt_table.specs.Rows.{form_of}
+use Rattle.dump_grammar.specs.Groups.{row_of}
+use Rattle.dump_grammar.specs.Kinds.{form_named}
 use Rattle.dump_grammar.specs.Lines.{Text}
 
-find_true : (p : Kind → Bool) (ks : List Kind) (k : Kind) → find p ks ≡ Some k → p k ≡ true
-find_true p [] k is = cc
-find_true p (x ∷ ks) k is = by_cases (p x) refl (λ e. find_true p ks k e) is
+found_each : (Q : Spelling → Type 0) (p : Spelling → Bool) (rows : List Spelling) (row : Spelling)
+    → find p rows ≡ Some row → AllByRecursion Q rows → Q row
+found_each Q p [] row is each = let h : None ≡ Some row = is in absurd (cc h)
+found_each Q p (x ∷ rows) row is each = by_cases (p x) (λ e. found_each Q p rows row e each.1) is
   where
-    by_cases : (b : Bool) → p x ≡ b → (find p ks ≡ Some k → p k ≡ true) → (if b then Some x else find p ks) ≡ Some k → p k ≡ true
-    by_cases true e more h = let same : x ≡ k = cc in ap p (sym same) ∙ e
-    by_cases false e more h = more h
+    by_cases : (b : Bool) → (find p rows ≡ Some row → Q row) → (if b then Some x else find p rows) ≡ Some row → Q row
+    by_cases true more e = let same : x ≡ row = cc in subst Q same each.0
+    by_cases false more e = more e
 
-both_true : (a b : Bool) → (a && b) ≡ true → (a ≡ true) × (b ≡ true)
-both_true true b e = (refl, e)
-both_true false b e = cc
+abbrev IsOfKind : Spelling → Type 0
+IsOfKind row = (k : Kind) × (row.form ≡ form_of k)
 
--- the kind that is found has these names
-pub kind_names : (name option : Text) (k : Kind) → kind_of name option ≡ Some k → (module_name k ≡ name) × (option_name k ≡ option)
-unfolding kind_of
-kind_names name option k is =
-    let both = both_true _ _ (find_true (λ kind. bytes_eq (module_name kind) name && bytes_eq (option_name kind) option) all_kinds k is) in
-    ((bytes_eq-Decides (module_name k) name).0 both.0, (bytes_eq-Decides (option_name k) option).0 both.1)
+each_known : AllByRecursion IsOfKind known_options
+each_known = (
+  (Kind.Base, refl),
+  (
+    (Kind.Base, refl),
+    (
+      (Kind.Base, refl),
+      (
+        (Kind.Base, refl),
+        (
+          (Kind.Base, refl),
+          (
+            (Kind.Base, refl),
+            (
+              (Kind.Port Transport.Tcp Side.Source, refl),
+              (
+                (Kind.Port Transport.Tcp Side.Destination, refl),
+                (
+                  (Kind.Port Transport.Udp Side.Source, refl),
+                  (
+                    (Kind.Port Transport.Udp Side.Destination, refl),
+                    (
+                      (Kind.Flags, refl),
+                      (
+                        (Kind.Syn, refl),
+                        (
+                          (Kind.Ports Side.Source, refl),
+                          (
+                            (Kind.Ports Side.Destination, refl),
+                            (
+                              (Kind.EitherPorts, refl),
+                              (
+                                (Kind.Addresses Side.Source, refl),
+                                (
+                                  (Kind.Addresses Side.Destination, refl),
+                                  ((Kind.States, refl), ((Kind.States, refl), ((Kind.Comment, refl), tt))),
+                                ),
+                              ),
+                            ),
+                          ),
+                        ),
+                      ),
+                    ),
+                  ),
+                ),
+              ),
+            ),
+          ),
+        ),
+      ),
+    ),
+  ),
+)
 
-kind_itself : (k : Kind) → kind_of (module_name k) (option_name k) ≡ Some k
-unfolding kind_of
-kind_itself (Kind.Port Transport.Tcp Side.Source) = refl
-kind_itself (Kind.Port Transport.Tcp Side.Destination) = refl
-kind_itself (Kind.Port Transport.Udp Side.Source) = refl
-kind_itself (Kind.Port Transport.Udp Side.Destination) = refl
-kind_itself Kind.Flags = refl
-kind_itself Kind.Syn = refl
-kind_itself (Kind.Ports Side.Source) = refl
-kind_itself (Kind.Ports Side.Destination) = refl
-kind_itself Kind.EitherPorts = refl
-kind_itself (Kind.Addresses Side.Source) = refl
-kind_itself (Kind.Addresses Side.Destination) = refl
-kind_itself Kind.State = refl
-kind_itself Kind.ConnectionState = refl
-kind_itself Kind.Comment = refl
+-- the form of each row is that of a kind
+pub row_kind : (name option : Text) (row : Spelling) → row_of name option ≡ Some row
+    → (k : Kind) × (row.form ≡ form_of k)
+unfolding row_of
+row_kind name option row is =
+    found_each IsOfKind (λ (here : Spelling). bytes_eq here.name name && bytes_eq here.option option)
+    known_options row is each_known
 
-found_as : (k : Kind) (name option : Text) → module_name k ≡ name → option_name k ≡ option → kind_of name option ≡ Some k
-found_as k name option e f = sym (ap (kind_of (module_name k)) f ∙ ap (λ (n : Text). kind_of n option) e) ∙ kind_itself k
+form_row_of : (o : Option Spelling) (f : Form) → Some f ≡ option_map (λ (row : Spelling). row.form) o
+    → (row : Spelling) × ((o ≡ Some row) × (row.form ≡ f))
+form_row_of None f e = let h : Some f ≡ None = e in absurd (cc h)
+form_row_of (Some row) f e = let h : Some f ≡ Some row.form = e in (row, (refl, cc))
 
--- where none is found, none has these names
-pub kind_none : (name option : Text) (k : Kind) → kind_of name option ≡ None → module_name k ≡ name → option_name k ≡ option → ⊥
-kind_none name option k none e f = let h : None ≡ Some k = sym none ∙ found_as k name option e f in cc
+-- where a form is told there is a row
+pub form_row : (name option : Text) (f : Form) → Some f ≡ form_named name option
+    → (row : Spelling) × ((row_of name option ≡ Some row) × (row.form ≡ f))
+form_row name option f e = form_row_of (row_of name option) f e
 
--- the names are those of one kind
-pub kind_once : (k j : Kind) → module_name k ≡ module_name j → option_name k ≡ option_name j → k ≡ j
-kind_once k j e f = let h : Some k ≡ Some j = sym (found_as k (module_name j) (option_name j) e f) ∙ kind_itself j in cc
+no_row_of : (o : Option Spelling) (row : Spelling) → None ≡ option_map (λ (row : Spelling). row.form) o
+    → o ≡ Some row → ⊥
+no_row_of None row e is = let h : None ≡ Some row = is in cc h
+no_row_of (Some other) row e is = let h : None ≡ Some other.form = e in cc h
+
+-- where none is told there is no row
+pub no_row : (name option : Text) (row : Spelling) → None ≡ form_named name option → row_of name option ≡ Some row → ⊥
+no_row name option row e is = no_row_of (row_of name option) row e is

@@ -1,9 +1,6 @@
 pub mod CounterLemmas
 pub mod PolicyLemmas
 pub mod PortLemmas
-pub mod CommaLemmas
-pub mod WordLemmas
-pub mod StateLemmas
 pub mod TargetLemmas
 pub mod OptionLemmas
 pub mod GroupLemmas
@@ -22,3 +19,4 @@ pub mod SayingOnce
 pub mod LiteralOnce
 pub mod RuleOnce
 pub mod PrintableLemmas
+pub mod SaidBy

@@ -15,7 +15,7 @@ use Rattle.dump_grammar.specs.Literals.{IsBaseLiteral, IsNameLiteral, IsNetLiter
 use Rattle.dump_grammar.proofs.BaseLemmas.{destination_only, fragment_only, input_only, output_only, protocol_only, same_only, source_only}
 use Rattle.dump_grammar.proofs.CounterLemmas.{one_last}
 use Rattle.dump_grammar.proofs.ProtocolLemmas.{every_only}
-use Rattle.dump_grammar.proofs.ProtocolOnce.{proto_once}
+use Rattle.primitives.proofs.WordLemmas.{proto_once}
 
 pattern_once : (text : Text) (p q : Pattern) → IsPattern text p → IsPattern text q → p ≡ q
 pattern_once text (Pattern.Prefix f) (Pattern.Prefix g) is as' = ap Pattern.Prefix (one_last f g 43 43 (sym is ∙ as')).0

@@ -1,22 +1,13 @@
 -- A range of ports is parted at its colon.
 use Rattle.std.proofs.Common.{◌≡◌, ◌≢◌, ◌∙◌, ◌<◌, ◌≤◌, ◌^◌, ◌++◌, ◌∷◌, inl, inr, Option, Some, None, IfNone, [], ℕ, arith, sym, subst, decimal, ap, lit≤}
-use Rattle.std.specs.List.{AllByRecursion}
-use Rattle.std.specs.Char.{digit_value}
-use Rattle.std.specs.Str.Parse.{AllDigits}
-use Rattle.std.proofs.lemmas.Fmt.{decimal_is_IsNumeral}
-use Rattle.std.proofs.lemmas.List.Elements.{All-from_recursion}
 use Rattle.interval_set.specs.declared.set.Range.{Range}
-use Rattle.addr_text.specs.Parts.{Lacks}
-use Rattle.addr_text.proofs.PartLemmas.{one_parting, lacks_none}
+use Rattle.basics.specs.Parts.{Lacks}
+use Rattle.basics.proofs.PartingLemmas.{decimal_lacks as number_lacks, one_parting, lacks_none}
 use Rattle.dump_grammar.specs.Arguments.{IsPortRange}
 use Rattle.dump_grammar.specs.Lines.{Text}
 
-digits_free : (c : ℕ) (text : Text) → 10 ≤ digit_value c → AllDigits 10 text → AllByRecursion (λ b. b ≢ c) text
-digits_free c [] high p = tt
-digits_free c (d ∷ text) high p = (λ is. absurd (omega (arith, ap digit_value is, p.0)), digits_free c text high p.1)
-
 pub decimal_lacks : (n : ℕ) → n < 2 ^ 64 → Lacks 58 (decimal n)
-decimal_lacks n small = All-from_recursion (λ b. b ≢ 58) (decimal n) (digits_free 58 (decimal n) (lit≤ tt) (decimal_is_IsNumeral n small).0.1)
+decimal_lacks n small = number_lacks 58 n (lit≤ tt) small
 
 -- a text without a colon is one port
 pub port_alone : (text : Text) (r : Range) → Lacks 58 text → IsPortRange text r → (text ≡ decimal r.hi) × (r.hi ≤ 65535)

@@ -5,14 +5,14 @@ use Rattle.std.specs.Prelude.{if◌then◌else◌}
 use Rattle.std.proofs.lemmas.Bool.Decides.{nat_tests}
 use Rattle.std.proofs.lemmas.List.{take_all, take_more}
 use Rattle.std.proofs.lemmas.List.Elements.{All-from_recursion}
-use Rattle.addr_text.specs.Parts.{Lacks}
+use Rattle.basics.specs.Parts.{Lacks, comma_parts}
 use Rattle.interval_set.specs.declared.set.Range.{Range}
 use Rattle.interval_set.specs.Numbers.{IsSet, has, is_within}
 use Rattle.interval_set.specs.Spelling.{ranges_where, set_or}
 use Rattle.interval_set.proofs.Spelling.{spelled, where_ascends}
 use Rattle.dump_grammar.specs.Arguments.{ArePortRanges, IsPortList, IsPortRange, weight}
 use Rattle.dump_grammar.specs.Lines.{Text}
-use Rattle.dump_grammar.proofs.CommaLemmas.{parts, parts_at, parts_last}
+use Rattle.basics.proofs.PartingLemmas.{parts_at, parts_last}
 
 abbrev pub weight_of : Text → ℕ
 weight_of part = if list_any (λ b. b == 58) part then 2 else 1
@@ -29,19 +29,22 @@ first_range part texts [] are = absurd are
 first_range part texts (r ∷ rs) are = (r, rs, (are.0, are.1))
 
 module _ (text rest part after : Text) (found : List Range) (count : ℕ) (so_far : PortsSoFar text rest found count) (cut : (rest ≡ part ++ 44 ∷ after) × Lacks 44 part) where
-  first_of : (rs : List Range) → ArePortRanges (parts text) rs → (r : Range) × (more : List Range) × (IsPortRange part r × ArePortRanges (parts after) more)
+  first_of : (rs : List Range) → ArePortRanges (comma_parts text) rs
+      → (r : Range) × (more : List Range) × (IsPortRange part r × ArePortRanges (comma_parts after) more)
   first_of rs are =
       let left = so_far.each rs are in
-      first_range part (parts after) left.0 (subst (λ (ps : List Text). ArePortRanges ps left.0) (parts_at rest part after cut) left.1)
+      first_range part (comma_parts after) left.0
+      (subst (λ (ps : List Text). ArePortRanges ps left.0) (parts_at rest part after cut) left.1)
 
-  now_counted : count + (weight_of part + weight (parts after)) ≡ weight (parts text)
+  now_counted : count + (weight_of part + weight (comma_parts after)) ≡ weight (comma_parts text)
   now_counted = ap (λ (ps : List Text). count + weight ps) (sym (parts_at rest part after cut)) ∙ so_far.counted
 
   pub ports_passed : (r : Range) (with_last : List Range) (w now : ℕ) → IsPortRange part r → with_last ≡ found ++ r ∷ [] → w ≡ weight_of part → now ≡ count + w → now ≤ 15
       → PortsSoFar text after with_last now
   ports_passed r with_last w now is pushed weighs sum fits = record {
     read = λ more are.
-        subst (λ (rs : List Range). ArePortRanges (parts text) rs) (sym (ap (λ (rs : List Range). rs ++ more) pushed ∙ append_assoc found (r ∷ []) more))
+        subst (λ (rs : List Range). ArePortRanges (comma_parts text) rs)
+        (sym (ap (λ (rs : List Range). rs ++ more) pushed ∙ append_assoc found (r ∷ []) more))
         (so_far.read (r ∷ more) (subst (λ (ps : List Text). ArePortRanges ps (r ∷ more)) (sym (parts_at rest part after cut)) (is, are)));
     each = λ rs are. let left = first_of rs are in (left.1, left.2.1);
     counted = let e = now_counted in omega (arith, e, weighs, sum);
@@ -57,7 +60,7 @@ module _ (text rest part after : Text) (found : List Range) (count : ℕ) (so_fa
   ports_many w now weighs sum many rs list = let e = now_counted in let small = list.1 in omega (arith, e, weighs, sum, many, small)
 
 module _ (text rest : Text) (found : List Range) (count : ℕ) (so_far : PortsSoFar text rest found count) (free : Lacks 44 rest) where
-  last_counted : count + (weight_of rest + 0) ≡ weight (parts text)
+  last_counted : count + (weight_of rest + 0) ≡ weight (comma_parts text)
   last_counted = ap (λ (ps : List Text). count + weight ps) (sym (parts_last rest free)) ∙ so_far.counted
 
   pub last_refused : ((r : Range) → IsPortRange rest r → ⊥) → (rs : List Range) → IsPortList text rs → ⊥
@@ -71,7 +74,7 @@ module _ (text rest : Text) (found : List Range) (count : ℕ) (so_far : PortsSo
 
   pub ports_whole : (r : Range) (with_last : List Range) (w : ℕ) → IsPortRange rest r → with_last ≡ found ++ r ∷ [] → w ≡ weight_of rest → count + w ≤ 15 → IsPortList text with_last
   ports_whole r with_last w is pushed weighs fits = (
-    subst (λ (rs : List Range). ArePortRanges (parts text) rs) (sym pushed)
+    subst (λ (rs : List Range). ArePortRanges (comma_parts text) rs) (sym pushed)
         (so_far.read (r ∷ []) (subst (λ (ps : List Text). ArePortRanges ps (r ∷ [])) (sym (parts_last rest free)) (is, tt))),
     let e = last_counted in omega (arith, e, weighs, fits),
   )
@@ -89,7 +92,7 @@ all_ordered [] (r ∷ rs) are = absurd are
 all_ordered (text ∷ texts) (r ∷ rs) are = (range_ordered text r are.0, all_ordered texts rs are.1)
 
 pub list_ordered : (text : Text) (rs : List Range) → IsPortList text rs → All IsOrdered rs
-list_ordered text rs list = All-from_recursion IsOrdered rs (all_ordered (parts text) rs list.0)
+list_ordered text rs list = All-from_recursion IsOrdered rs (all_ordered (comma_parts text) rs list.0)
 
 has_last : (rs : List Range) (r : Range) (n : ℕ) → has (rs ++ r ∷ []) n ≡ (has rs n || is_within r n)
 has_last [] r n = grind (arith, nat_tests)

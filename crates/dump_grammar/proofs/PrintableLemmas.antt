@@ -9,11 +9,11 @@ use Rattle.match_expr.specs.declared.expr.Expr.TheOpen.{Expr-F}
 use Rattle.match_expr.specs.declared.expr.Expr.TheVariants.{All, Not, Prim, rolls-All, rolls-Not, rolls-Prim}
 use Rattle.name_set.specs.declared.pattern.Pattern.{Pattern}
 use Rattle.primitives.specs.declared.prim.Prim_.{Prim_}
-use Rattle.dump_grammar.specs.declared.kinds.Kind.{Kind}
-use Rattle.dump_grammar.specs.declared.kinds.Side.{Side}
-use Rattle.dump_grammar.specs.Arguments.{either_port}
+use Rattle.opt_table.specs.declared.kind.Kind.{Kind}
+use Rattle.opt_table.specs.declared.kind.Side.{Side}
+use Rattle.opt_table.specs.Options.{either_port}
 use Rattle.dump_grammar.specs.Groups.{AreGroups, Group, Base, Module, ModuleOption, is_known_module, mark_words}
-use Rattle.dump_grammar.specs.Kinds.{addresses_at, ports_at}
+use Rattle.opt_table.specs.Rows.{addresses_at, ports_at}
 use Rattle.dump_grammar.specs.Lines.{IsLine, Text, Word, bare, texts}
 use Rattle.dump_grammar.specs.Literals.{AreLiterals, IsBaseLiteral, IsPattern, modules_literals, option_follows, text_of}
 use Rattle.match_expr.specs.Primitives.{joined, listed, primitives_in}
@@ -101,8 +101,8 @@ module _ {W : ℕ} where
   by_printable Reads groups (Kind.Ports side) arguments negated neg e (text, n, rs, (a, l, i, x)) = ports_printable neg side n rs e x
   by_printable Reads groups Kind.EitherPorts arguments negated neg e (text, n, rs, (a, l, i, x)) = either_printable neg n rs e x
   by_printable Reads groups (Kind.Addresses side) arguments negated neg e (text, r, (a, i, x)) = addresses_printable neg side _ e x
-  by_printable Reads groups Kind.State arguments negated neg e (text, m, (a, i, x)) = one_printable neg e _ x tt
-  by_printable Reads groups Kind.ConnectionState arguments negated neg e (text, m, (a, i, x)) = one_printable neg e _ x tt
+  by_printable Reads groups Kind.States arguments negated neg e (text, m, (a, i, x)) = one_printable neg e _ x tt
+  by_printable Reads groups Kind.Base arguments negated neg e says = absurd says
   by_printable Reads groups Kind.Comment arguments negated neg e (text, (a, n, x)) = one_printable neg e _ x tt
 
   modules_printable : (name : Text) (gs : List Group) (rest : List (Lit (Prim_ W))) → AllByRecursion IsPrintableLiteral rest → AllByRecursion IsPrintableLiteral (modules_literals name gs ++ rest)
@@ -123,7 +123,7 @@ module _ {W : ℕ} where
   literals_printable Reads groups (ModuleOption c n o a ∷ gs) ls free (Lit.Known neg expr, rest, (e, (name, (f, m, says)), are)) =
       let by = says_as Reads groups name o a n expr says in
       subst (λ (xs : List (Lit (Prim_ W))). AllByRecursion IsPrintableLiteral xs) (sym e)
-      (by_printable Reads groups by.0 a n neg expr by.1.2, literals_printable Reads groups gs rest free are)
+      (by_printable Reads groups by.0 a n neg expr by.1, literals_printable Reads groups gs rest free are)
 
 abbrev WordsFree : List Word → Type 0
 WordsFree words = AllByRecursion (λ (w : Word). IsLine w.text) words

@@ -1,18 +1,14 @@
 -- Protocol 0 is no protocol of its own.
 use Rattle.std.proofs.Common.{◌≡◌, ◌≤◌, ◌<◌, ◌∙◌, ℕ, zero, suc, List, Bool, true, false, Some, None, refl, arith, codes, inl, inr, decimal, subst, sym}
-use Rattle.std.specs.Prelude.{nat_lt}
-use Rattle.std.proofs.lemmas.Bool.Decides.{nat_tests}
 use Rattle.std.proofs.lemmas.Fmt.{decimal_digit, decimal_injective, decimal_is_IsNumeral}
 use Rattle.std.specs.Str.Parse.{AllDigits}
 use Rattle.fw_rule.specs.declared.rule.Lit.{Lit}
 use Rattle.primitives.specs.declared.prim.Prim_.{Prim_}
-use Rattle.primitives.specs.Words.{Named, SpellsProto, number_in, proto_names}
+use Rattle.primitives.proofs.WordLemmas.{named_positive}
+use Rattle.primitives.specs.Tables.{number_in, proto_names}
+use Rattle.primitives.specs.Words.{SpellsProto}
 use Rattle.dump_grammar.specs.Lines.{Text}
 use Rattle.dump_grammar.specs.Literals.{IsEveryProtocol, IsProtocolLiteral}
-use Rattle.dump_grammar.proofs.WordLemmas.{number_passes}
-
-number_positive : (text : List ℕ) (n : ℕ) → number_in proto_names text ≡ Some n → 1 ≤ n
-number_positive text n is = let passes = number_passes (λ (word : Named). nat_lt 0 word.number) proto_names text n refl is in grind (arith, nat_tests, passes)
 
 by_zero : (text : Text) (n : ℕ) → (IsEveryProtocol text → ⊥) → text ≡ decimal n → 1 ≤ n
 by_zero text zero other is = absurd (other (inr (is ∙ decimal_digit 0 (omega arith))))
@@ -20,7 +16,7 @@ by_zero text (suc n) other is = omega arith
 
 -- another text than those for every protocol has a number from 1
 pub protocol_positive : (text : Text) (n : ℕ) → (IsEveryProtocol text → ⊥) → SpellsProto text n → 1 ≤ n
-protocol_positive text n other (inl is) = number_positive text n is
+protocol_positive text n other (inl is) = named_positive text n is
 protocol_positive text n other (inr is) = by_zero text n other is.1
 
 no_number : (n : ℕ) → n ≤ 255 → codes "all" ≡ decimal n → ⊥
@@ -30,6 +26,7 @@ no_number n small is =
     omega (arith, first)
 
 pub every_only : (text : Text) (n : ℕ) → IsEveryProtocol text → 1 ≤ n → SpellsProto text n → ⊥
+unfolding proto_names
 every_only text n (inl is) some (inl spells) = let f : None ≡ Some n = subst (λ (t : Text). number_in proto_names t ≡ Some n) is spells in cc
 every_only text n (inr is) some (inl spells) = let f : None ≡ Some n = subst (λ (t : Text). number_in proto_names t ≡ Some n) is spells in cc
 every_only text n (inl is) some (inr spells) = no_number n spells.0 (sym is ∙ spells.1)

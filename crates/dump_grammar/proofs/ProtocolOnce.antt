@@ -1,15 +1,11 @@
 -- A text spells one protocol, and a line names one.
 use Rattle.std.proofs.Common.{◌≡◌, ◌∙◌, ◌≤◌, ◌<◌, ◌+◌, ◌++◌, ℕ, zero, suc, List, [], ◌∷◌, Bool, true, false, ◌&&◌, not, Some, refl, sym, ap, subst, arith, codes, inl, inr, ◌⊎◌, decimal, get_or, length, take, Contains}
-use Rattle.std.specs.Prelude.{nat_le}
-use Rattle.std.specs.Char.{digit_value}
-use Rattle.std.specs.Str.Parse.{AllDigits}
-use Rattle.std.proofs.lemmas.Bool.Decides.{nat_tests}
-use Rattle.std.proofs.lemmas.Fmt.{decimal_injective, decimal_is_IsNumeral}
 use Rattle.std.proofs.lemmas.List.{map-append, take_all, take_more}
 use Rattle.std.proofs.lemmas.List.Elements.{Contains-append_cases}
 use Rattle.std.proofs.lemmas.Slice.Eq.{bytes_eq-Decides}
 use Rattle.primitives.specs.Ports.{HasPorts}
-use Rattle.primitives.specs.Words.{Named, SpellsProto, number_in, proto_names}
+use Rattle.primitives.proofs.WordLemmas.{proto_once}
+use Rattle.primitives.specs.Words.{SpellsProto}
 use Rattle.dump_grammar.specs.declared.grouping.GroupWords.{GroupWords}
 use Rattle.dump_grammar.specs.Arguments.{LineProtocol}
 use Rattle.dump_grammar.specs.ChainLines.{is_among}
@@ -17,29 +13,6 @@ use Rattle.dump_grammar.specs.GroupWords.{group_of, groups_of}
 use Rattle.dump_grammar.specs.Groups.{Group, Base, Module, ModuleOption, all_differ, base_of}
 use Rattle.dump_grammar.specs.Lines.{Text}
 use Rattle.dump_grammar.proofs.BaseLemmas.{same_only}
-use Rattle.dump_grammar.proofs.WordLemmas.{number_passes}
-
--- the text begins with a byte that is no decimal digit
-abbrev begins_other : List ℕ → Bool
-begins_other [] = false
-begins_other (b ∷ bs) = nat_le 10 (digit_value b)
-
-name_begins : (text : Text) (n : ℕ) → number_in proto_names text ≡ Some n → begins_other text ≡ true
-name_begins text n is = number_passes (λ (word : Named). begins_other word.name) proto_names text n refl is
-
-no_digits : (text : Text) → begins_other text ≡ true → AllDigits 10 text → ⊥
-no_digits [] h digits = let f : false ≡ true = h in cc
-no_digits (b ∷ bs) h digits = let first = digits.0 in grind (arith, nat_tests, h, first)
-
-name_no_number : (text : Text) (n m : ℕ) → number_in proto_names text ≡ Some n → m ≤ 255 → text ≡ decimal m → ⊥
-name_no_number text n m named small is =
-    no_digits text (name_begins text n named) (subst (AllDigits 10) (sym is) (decimal_is_IsNumeral m (omega (arith, small))).0.1)
-
-pub proto_once : (text : Text) (n m : ℕ) → SpellsProto text n → SpellsProto text m → n ≡ m
-proto_once text n m (inl p) (inl q) = let h : Some n ≡ Some m = sym p ∙ q in cc
-proto_once text n m (inl p) (inr q) = absurd (name_no_number text n m p q.0 q.1)
-proto_once text n m (inr p) (inl q) = absurd (name_no_number text m n q p.0 p.1)
-proto_once text n m (inr p) (inr q) = let a = p.0 in let b = q.0 in decimal_injective n m (omega (arith, a)) (omega (arith, b)) (sym p.1 ∙ q.1)
 
 contains_cases : (g : Group) (gs : List Group) (x : Group) → Contains (g ∷ gs) x → (g ≡ x) ⊎ Contains gs x
 contains_cases g gs x (zero, inside, is) = inl is

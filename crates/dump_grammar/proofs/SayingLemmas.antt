@@ -6,17 +6,20 @@ use Rattle.match_expr.specs.declared.expr.Expr.{Expr}
 use Rattle.match_expr.specs.declared.expr.Expr.TheVariants.{Prim}
 use Rattle.primitives.specs.declared.prim.Prim_.{Prim_}
 use Rattle.primitives.specs.Ports.{HasPorts}
+use Rattle.primitives.specs.Tables.{IsNameList, state_names}
 use Rattle.primitives.specs.Words.{SpellsFlags}
-use Rattle.dump_grammar.specs.declared.kinds.Kind.{Kind}
-use Rattle.dump_grammar.specs.declared.kinds.Side.{Side}
-use Rattle.dump_grammar.specs.declared.kinds.Transport.{Transport}
-use Rattle.dump_grammar.specs.Arguments.{IsPortList, IsPortRange, IsStateList, LineProtocol, Says, either_port, source_port, destination_port, tcp_flags, syn, source_port_list, destination_port_list, either_port_list, source_range, destination_range, state, connection_state, comment}
-use Rattle.dump_grammar.specs.Groups.{Group}
-use Rattle.dump_grammar.specs.Kinds.{HasProtocol, addresses_at, kind_of, module_name, option_name, ports_at, transport_number}
+use Rattle.opt_table.specs.declared.kind.Kind.{Kind}
+use Rattle.opt_table.specs.declared.kind.Side.{Side}
+use Rattle.opt_table.specs.declared.kind.Transport.{Transport}
+use Rattle.opt_table.specs.Options.{Form, Spelling, either_port}
+use Rattle.opt_table.specs.Rows.{addresses_at, form_of, ports_at, transport_number}
+use Rattle.dump_grammar.specs.Arguments.{FormSays, IsPortList, IsPortRange, LineProtocol, Says}
+use Rattle.dump_grammar.specs.Groups.{Group, row_of}
+use Rattle.dump_grammar.specs.Kinds.{HasProtocol, form_named}
 use Rattle.dump_token.specs.declared.token.Token.{Token}
 use Rattle.dump_grammar.specs.Lines.{Text, texts, words_of}
 use Rattle.dump_grammar.proofs.BaseLemmas.{same_only}
-use Rattle.dump_grammar.proofs.KindLemmas.{kind_names, kind_none, kind_once}
+use Rattle.dump_grammar.proofs.KindLemmas.{form_row, no_row, row_kind}
 
 module _ {W : ℕ} (Reads : Text → ℕ → Type 0) (groups : List Group) where
   -- the same by the kind
@@ -32,111 +35,144 @@ module _ {W : ℕ} (Reads : Text → ℕ → Type 0) (groups : List Group) where
       (text : Text) × (n : ℕ) × (rs : List Range) × ((arguments ≡ text ∷ []) × LineProtocol groups n × IsPortList text rs × (e ≡ either_port n rs))
   SaysBy (Kind.Addresses side) arguments negated e =
       (text : Text) × (r : Range) × ((arguments ≡ text ∷ []) × IsRangeText Reads text r × (e ≡ Prim (addresses_at side (r ∷ []))))
-  SaysBy Kind.State arguments negated e = (text : Text) × (m : ℕ) × ((arguments ≡ text ∷ []) × IsStateList text m × (e ≡ Prim (Prim_.State m)))
-  SaysBy Kind.ConnectionState arguments negated e = (text : Text) × (m : ℕ) × ((arguments ≡ text ∷ []) × IsStateList text m × (e ≡ Prim (Prim_.State m)))
+  SaysBy Kind.States arguments negated e = (text : Text) × (m : ℕ)
+      × ((arguments ≡ text ∷ []) × IsNameList state_names text m × (e ≡ Prim (Prim_.State m)))
   SaysBy Kind.Comment arguments negated e = (text : Text) × ((arguments ≡ text ∷ []) × (negated ≡ false) × (e ≡ Prim Prim_.Always))
+  SaysBy Kind.Base arguments negated e = ⊥
 
-  abbrev pub SaysAs : Text → Text → List Text → Bool → Expr (Prim_ W) → Type 0
-  SaysAs current option arguments negated e = (k : Kind) × ((module_name k ≡ current) × (option_name k ≡ option) × SaysBy k arguments negated e)
+  -- what arguments of the kind's form say, by equations
+  pub says_by : (k : Kind) (arguments : List Text) (negated : Bool) (e : Expr (Prim_ W))
+      → FormSays Reads groups (form_of k) arguments negated e → SaysBy k arguments negated e
+  says_by Kind.Base arguments negated e says = says
+  says_by (Kind.Port transport side) [] negated e says = absurd says
+  says_by (Kind.Port transport side) (text ∷ []) negated e (r, (i, x)) = (text, r, (refl, i, x))
+  says_by (Kind.Port transport side) (a ∷ b ∷ more) negated e says = absurd says
+  says_by Kind.Flags [] negated e says = absurd says
+  says_by Kind.Flags (a ∷ []) negated e says = absurd says
+  says_by Kind.Flags (mask ∷ comp ∷ []) negated e (m, c, (s, t, x)) = (mask, comp, m, c, (refl, s, t, x))
+  says_by Kind.Flags (a ∷ b ∷ c ∷ more) negated e says = absurd says
+  says_by Kind.Syn [] negated e x = (refl, x)
+  says_by Kind.Syn (a ∷ more) negated e says = absurd says
+  says_by (Kind.Ports side) [] negated e says = absurd says
+  says_by (Kind.Ports side) (text ∷ []) negated e (n, rs, (l, i, x)) = (text, n, rs, (refl, l, i, x))
+  says_by (Kind.Ports side) (a ∷ b ∷ more) negated e says = absurd says
+  says_by Kind.EitherPorts [] negated e says = absurd says
+  says_by Kind.EitherPorts (text ∷ []) negated e (n, rs, (l, i, x)) = (text, n, rs, (refl, l, i, x))
+  says_by Kind.EitherPorts (a ∷ b ∷ more) negated e says = absurd says
+  says_by (Kind.Addresses side) [] negated e says = absurd says
+  says_by (Kind.Addresses side) (text ∷ []) negated e (r, (i, x)) = (text, r, (refl, i, x))
+  says_by (Kind.Addresses side) (a ∷ b ∷ more) negated e says = absurd says
+  says_by Kind.States [] negated e says = absurd says
+  says_by Kind.States (text ∷ []) negated e (m, (i, x)) = (text, m, (refl, i, x))
+  says_by Kind.States (a ∷ b ∷ more) negated e says = absurd says
+  says_by Kind.Comment [] negated e says = absurd says
+  says_by Kind.Comment (text ∷ []) negated e (n, x) = (text, (refl, n, x))
+  says_by Kind.Comment (a ∷ b ∷ more) negated e says = absurd says
 
+  abbrev SaysForm : Kind → Bool → Expr (Prim_ W) → List Text → Type 0
+  SaysForm k negated e arguments = FormSays Reads groups (form_of k) arguments negated e
+
+  pub by_says : (k : Kind) (arguments : List Text) (negated : Bool) (e : Expr (Prim_ W))
+      → SaysBy k arguments negated e → FormSays Reads groups (form_of k) arguments negated e
+  by_says Kind.Base arguments negated e says = absurd says
+  by_says (Kind.Port transport side) arguments negated e (text, r, (a, i, x)) =
+      subst (SaysForm (Kind.Port transport side) negated e) (sym a) (r, (i, x))
+  by_says Kind.Flags arguments negated e (mask, comp, m, c, (a, s, t, x)) =
+      subst (SaysForm Kind.Flags negated e) (sym a) (m, c, (s, t, x))
+  by_says Kind.Syn arguments negated e (a, x) = subst (SaysForm Kind.Syn negated e) (sym a) x
+  by_says (Kind.Ports side) arguments negated e (text, n, rs, (a, l, i, x)) =
+      subst (SaysForm (Kind.Ports side) negated e) (sym a) (n, rs, (l, i, x))
+  by_says Kind.EitherPorts arguments negated e (text, n, rs, (a, l, i, x)) =
+      subst (SaysForm Kind.EitherPorts negated e) (sym a) (n, rs, (l, i, x))
+  by_says (Kind.Addresses side) arguments negated e (text, r, (a, i, x)) =
+      subst (SaysForm (Kind.Addresses side) negated e) (sym a) (r, (i, x))
+  by_says Kind.States arguments negated e (text, m, (a, i, x)) =
+      subst (SaysForm Kind.States negated e) (sym a) (m, (i, x))
+  by_says Kind.Comment arguments negated e (text, (a, n, x)) = subst (SaysForm Kind.Comment negated e) (sym a) (n, x)
+
+  -- what an option says is what its kind says
   pub says_as : (current option : Text) (arguments : List Text) (negated : Bool) (e : Expr (Prim_ W)) → Says Reads groups current option arguments negated e
-      → SaysAs current option arguments negated e
-  says_as current option arguments negated e (source_port n text r (inl (c, k)) o a i x) =
-      (Kind.Port Transport.Tcp Side.Source, (sym c, sym o, (text, r, (a, i, x ∙ ap (λ (m : ℕ). ports_at Side.Source m (r ∷ [])) k))))
-  says_as current option arguments negated e (source_port n text r (inr (c, k)) o a i x) =
-      (Kind.Port Transport.Udp Side.Source, (sym c, sym o, (text, r, (a, i, x ∙ ap (λ (m : ℕ). ports_at Side.Source m (r ∷ [])) k))))
-  says_as current option arguments negated e (destination_port n text r (inl (c, k)) o a i x) =
-      (Kind.Port Transport.Tcp Side.Destination, (sym c, sym o, (text, r, (a, i, x ∙ ap (λ (m : ℕ). ports_at Side.Destination m (r ∷ [])) k))))
-  says_as current option arguments negated e (destination_port n text r (inr (c, k)) o a i x) =
-      (Kind.Port Transport.Udp Side.Destination, (sym c, sym o, (text, r, (a, i, x ∙ ap (λ (m : ℕ). ports_at Side.Destination m (r ∷ [])) k))))
-  says_as current option arguments negated e (tcp_flags mask comp m c k o a s t x) = (Kind.Flags, (sym k, sym o, (mask, comp, m, c, (a, s, t, x))))
-  says_as current option arguments negated e (syn k o a x) = (Kind.Syn, (sym k, sym o, (a, x)))
-  says_as current option arguments negated e (source_port_list n text rs k o a l i x) = (Kind.Ports Side.Source, (sym k, sym o, (text, n, rs, (a, l, i, x))))
-  says_as current option arguments negated e (destination_port_list n text rs k o a l i x) = (Kind.Ports Side.Destination, (sym k, sym o, (text, n, rs, (a, l, i, x))))
-  says_as current option arguments negated e (either_port_list n text rs k o a l i x) = (Kind.EitherPorts, (sym k, sym o, (text, n, rs, (a, l, i, x))))
-  says_as current option arguments negated e (source_range text r k o a i x) = (Kind.Addresses Side.Source, (sym k, sym o, (text, r, (a, i, x))))
-  says_as current option arguments negated e (destination_range text r k o a i x) = (Kind.Addresses Side.Destination, (sym k, sym o, (text, r, (a, i, x))))
-  says_as current option arguments negated e (state text m k o a i x) = (Kind.State, (sym k, sym o, (text, m, (a, i, x))))
-  says_as current option arguments negated e (connection_state text m k o a i x) = (Kind.ConnectionState, (sym k, sym o, (text, m, (a, i, x))))
-  says_as current option arguments negated e (comment text k o a n x) = (Kind.Comment, (sym k, sym o, (text, (a, n, x))))
+      → (k : Kind) × SaysBy k arguments negated e
+  says_as current option arguments negated e (row, (is, says)) =
+      let k = row_kind current option row is in (
+        k.0,
+        says_by k.0 arguments negated e
+            (subst (λ (f : Form). FormSays Reads groups f arguments negated e) k.1 says),
+      )
 
-  -- what an option of this kind says is of the kind's form
-  pub says_by : (k : Kind) (arguments : List Text) (negated : Bool) (e : Expr (Prim_ W)) → Says Reads groups (module_name k) (option_name k) arguments negated e
-      → SaysBy k arguments negated e
-  says_by k arguments negated e says =
-      let w = says_as (module_name k) (option_name k) arguments negated e says in
-      subst (λ (j : Kind). SaysBy j arguments negated e) (kind_once w.0 k w.1.0 w.1.1) w.1.2
-
-  -- what is of the kind's form is said by an option of this kind
-  pub by_says : (k : Kind) (arguments : List Text) (negated : Bool) (e : Expr (Prim_ W)) → SaysBy k arguments negated e
-      → Says Reads groups (module_name k) (option_name k) arguments negated e
-  by_says (Kind.Port Transport.Tcp Side.Source) arguments negated e (text, r, (a, i, x)) = source_port 6 text r (inl (refl, refl)) refl a i x
-  by_says (Kind.Port Transport.Tcp Side.Destination) arguments negated e (text, r, (a, i, x)) = destination_port 6 text r (inl (refl, refl)) refl a i x
-  by_says (Kind.Port Transport.Udp Side.Source) arguments negated e (text, r, (a, i, x)) = source_port 17 text r (inr (refl, refl)) refl a i x
-  by_says (Kind.Port Transport.Udp Side.Destination) arguments negated e (text, r, (a, i, x)) = destination_port 17 text r (inr (refl, refl)) refl a i x
-  by_says Kind.Flags arguments negated e (mask, comp, m, c, (a, s, t, x)) = tcp_flags mask comp m c refl refl a s t x
-  by_says Kind.Syn arguments negated e (a, x) = syn refl refl a x
-  by_says (Kind.Ports Side.Source) arguments negated e (text, n, rs, (a, l, i, x)) = source_port_list n text rs refl refl a l i x
-  by_says (Kind.Ports Side.Destination) arguments negated e (text, n, rs, (a, l, i, x)) = destination_port_list n text rs refl refl a l i x
-  by_says Kind.EitherPorts arguments negated e (text, n, rs, (a, l, i, x)) = either_port_list n text rs refl refl a l i x
-  by_says (Kind.Addresses Side.Source) arguments negated e (text, r, (a, i, x)) = source_range text r refl refl a i x
-  by_says (Kind.Addresses Side.Destination) arguments negated e (text, r, (a, i, x)) = destination_range text r refl refl a i x
-  by_says Kind.State arguments negated e (text, m, (a, i, x)) = state text m refl refl a i x
-  by_says Kind.ConnectionState arguments negated e (text, m, (a, i, x)) = connection_state text m refl refl a i x
-  by_says Kind.Comment arguments negated e (text, (a, n, x)) = comment text refl refl a n x
-
-  -- what is said by the names of a kind is said by names that are the same
-  pub said_as : (k : Kind) (name option : Text) (arguments : List Text) (negated : Bool) (e : Expr (Prim_ W)) → module_name k ≡ name → option_name k ≡ option
-      → Says Reads groups (module_name k) (option_name k) arguments negated e → Says Reads groups name option arguments negated e
-  said_as k name option arguments negated e f g says =
-      subst (λ (n : Text). Says Reads groups n option arguments negated e) f (subst (λ (o : Text). Says Reads groups (module_name k) o arguments negated e) g says)
-
-  pub as_said : (k : Kind) (name option : Text) (arguments : List Text) (negated : Bool) (e : Expr (Prim_ W)) → module_name k ≡ name → option_name k ≡ option
-      → Says Reads groups name option arguments negated e → Says Reads groups (module_name k) (option_name k) arguments negated e
-  as_said k name option arguments negated e f g says =
-      subst (λ (n : Text). Says Reads groups n (option_name k) arguments negated e) (sym f) (subst (λ (o : Text). Says Reads groups name o arguments negated e) (sym g) says)
-
-  -- an option of no kind says nothing
-  pub no_kind : (name option : Text) (arguments : List Text) (negated : Bool) (e : Expr (Prim_ W)) → kind_of name option ≡ None
-      → Says Reads groups name option arguments negated e → ⊥
-  no_kind name option arguments negated e none says =
-      let w = says_as name option arguments negated e says in
-      kind_none name option w.0 none w.1.0 w.1.1
+  -- two things that an option says are said by one kind
+  pub says_both : (current option : Text) (arguments : List Text) (negated : Bool) (d e : Expr (Prim_ W))
+      → Says Reads groups current option arguments negated d
+      → Says Reads groups current option arguments negated e
+      → (k : Kind) × (SaysBy k arguments negated d × SaysBy k arguments negated e)
+  says_both current option arguments negated d e (row, (is, says)) (other, (is', says')) =
+      let k = row_kind current option row is in
+      let both : Some other ≡ Some row = sym is' ∙ is in
+      let same : other ≡ row = cc in
+      let form : other.form ≡ form_of k.0 = ap (λ (r : Spelling). r.form) same ∙ k.1 in (
+        k.0,
+        (
+          says_by k.0 arguments negated d (subst (λ (f : Form). FormSays Reads groups f arguments negated d) k.1 says),
+          says_by k.0 arguments negated e
+              (subst (λ (f : Form). FormSays Reads groups f arguments negated e) form says'),
+        ),
+      )
 
   -- what an option of the module says, by the kind that is found
-  pub known_some : (current : Option Text) (k : Kind) (name option : Text) (arguments : List Text) (negated : Bool) (e : Expr (Prim_ W)) → current ≡ Some name → kind_of name option ≡ Some k
-      → Says Reads groups (module_name k) (option_name k) arguments negated e
+  pub known_some : (current : Option Text) (k : Kind) (name option : Text) (arguments : List Text) (negated : Bool)
+      (e : Expr (Prim_ W)) → current ≡ Some name
+      → Some (form_of k) ≡ form_named name option → FormSays Reads groups (form_of k) arguments negated e
       → (other : Text) × ((current ≡ Some other) × Says Reads groups other option arguments negated e)
   known_some current k name option arguments negated e here found says =
-      let names = kind_names name option k found in
-      (name, (here, said_as k name option arguments negated e names.0 names.1 says))
+      let there = form_row name option (form_of k) found in (
+        name,
+        (
+          here,
+          (
+            there.0,
+            (
+              there.1.0,
+              subst (λ (f : Form). FormSays Reads groups f arguments negated e)
+                  (sym there.1.1) says,
+            ),
+          ),
+        ),
+      )
 
-  pub known_none : (current : Option Text) (k : Kind) (name option : Text) (arguments : List Text) (negated : Bool) → current ≡ Some name → kind_of name option ≡ Some k
-      → ((e : Expr (Prim_ W)) → Says Reads groups (module_name k) (option_name k) arguments negated e → ⊥)
+  pub known_none : (current : Option Text) (k : Kind) (name option : Text) (arguments : List Text) (negated : Bool)
+      → current ≡ Some name
+      → Some (form_of k) ≡ form_named name option
+      → ((e : Expr (Prim_ W)) → FormSays Reads groups (form_of k) arguments negated e → ⊥)
       → (other : Text) (e : Expr (Prim_ W)) → current ≡ Some other → Says Reads groups other option arguments negated e → ⊥
-  known_none current k name option arguments negated here found none other e same says =
-      let names = kind_names name option k found in
-      let both : Some other ≡ Some name = sym same ∙ here in
+  known_none current k name option arguments negated here found none other e same (row, (is, says)) =
+      let there = form_row name option (form_of k) found in
+      let names : Some other ≡ Some name = sym same ∙ here in
       let it : other ≡ name = cc in
-      none e (as_said k name option arguments negated e names.0 names.1 (subst (λ (t : Text). Says Reads groups t option arguments negated e) it says))
+      let rows : Some row ≡ Some there.0 = sym (subst (λ (t : Text). row_of t option ≡ Some row) it is) ∙ there.1.0 in
+      let one : row ≡ there.0 = cc in
+      none e (subst (λ (f : Form). FormSays Reads groups f arguments negated e)
+      (ap (λ (r : Spelling). r.form) one ∙ there.1.1) says)
 
-  pub unknown_none : (current : Option Text) (name option : Text) (arguments : List Text) (negated : Bool) → current ≡ Some name → kind_of name option ≡ None
+  pub unknown_none : (current : Option Text) (name option : Text) (arguments : List Text) (negated : Bool)
+      → current ≡ Some name → None ≡ form_named name option
       → (other : Text) (e : Expr (Prim_ W)) → current ≡ Some other → Says Reads groups other option arguments negated e → ⊥
-  unknown_none current name option arguments negated here none other e same says =
-      let both : Some other ≡ Some name = sym same ∙ here in
+  unknown_none current name option arguments negated here none other e same (row, (is, says)) =
+      let names : Some other ≡ Some name = sym same ∙ here in
       let it : other ≡ name = cc in
-      no_kind name option arguments negated e none (subst (λ (t : Text). Says Reads groups t option arguments negated e) it says)
+      no_row name option row none (subst (λ (t : Text). row_of t option ≡ Some row) it is)
 
   -- the same where the kind is known to be another's equal
   pub said_of : (k j : Kind) (arguments : List Text) (negated : Bool) (e : Expr (Prim_ W)) → k ≡ j → SaysBy j arguments negated e
-      → Says Reads groups (module_name k) (option_name k) arguments negated e
+      → FormSays Reads groups (form_of k) arguments negated e
   said_of k j arguments negated e same is =
-      subst (λ (i : Kind). Says Reads groups (module_name i) (option_name i) arguments negated e) (sym same) (by_says j arguments negated e is)
+      subst (λ (i : Kind). FormSays Reads groups (form_of i) arguments negated e) (sym same)
+      (by_says j arguments negated e is)
 
   pub of_said : (k j : Kind) (arguments : List Text) (negated : Bool) (e : Expr (Prim_ W)) → k ≡ j
-      → Says Reads groups (module_name k) (option_name k) arguments negated e → SaysBy j arguments negated e
+      → FormSays Reads groups (form_of k) arguments negated e → SaysBy j arguments negated e
   of_said k j arguments negated e same says =
-      says_by j arguments negated e (subst (λ (i : Kind). Says Reads groups (module_name i) (option_name i) arguments negated e) same says)
+      says_by j arguments negated e (subst
+      (λ (i : Kind). FormSays Reads groups (form_of i) arguments negated e) same says)
 
 none_some : (n : ℕ) → None ≡ Some n → ⊥
 none_some n e = cc

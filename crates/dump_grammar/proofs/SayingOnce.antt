@@ -3,27 +3,28 @@ use Rattle.std.proofs.Common.{◌≡◌, ◌∙◌, ℕ, List, [], ◌∷◌, Bo
 use Rattle.std.proofs.lemmas.Fmt.{decimal_injective}
 use Rattle.std.specs.List.{slice_split}
 use Rattle.addr_text.specs.Nets.{HasOneRange, IsRangeText}
-use Rattle.addr_text.specs.Parts.{Lacks}
-use Rattle.addr_text.proofs.PartLemmas.{lacks_none}
+use Rattle.basics.specs.Parts.{Lacks}
+use Rattle.basics.proofs.PartingLemmas.{lacks_none}
 use Rattle.interval_set.specs.declared.set.Range.{Range}
 use Rattle.interval_set.specs.Laws.{same_range}
 use Rattle.match_expr.specs.declared.expr.Expr.{Expr}
 use Rattle.match_expr.specs.declared.expr.Expr.TheVariants.{Prim}
-use Rattle.primitives.proofs.FlagLists.{split_list}
+use Rattle.primitives.proofs.WordLemmas.{flags_once}
 use Rattle.primitives.specs.declared.prim.Prim_.{Prim_}
-use Rattle.primitives.specs.Words.{IsFlagList, SpellsFlags, flag_of, flags_of}
+use Rattle.primitives.specs.Tables.{IsNameList, state_names}
+use Rattle.primitives.specs.Words.{SpellsFlags}
 use Rattle.fw_rule.specs.declared.rule.Lit.{Lit}
-use Rattle.dump_grammar.specs.declared.kinds.Kind.{Kind}
-use Rattle.dump_grammar.specs.Arguments.{ArePortRanges, IsPortRange, IsStateList, Says, either_port}
+use Rattle.opt_table.specs.declared.kind.Kind.{Kind}
+use Rattle.opt_table.specs.Options.{either_port}
+use Rattle.opt_table.specs.Rows.{addresses_at, ports_at, transport_number}
+use Rattle.dump_grammar.specs.Arguments.{ArePortRanges, IsPortRange, Says}
 use Rattle.dump_grammar.specs.Groups.{Group, all_differ, base_of}
-use Rattle.dump_grammar.specs.Kinds.{addresses_at, ports_at, transport_number}
 use Rattle.dump_grammar.specs.Lines.{Text}
 use Rattle.dump_grammar.specs.Literals.{IsOptionLiteral}
 use Rattle.dump_grammar.proofs.BaseLemmas.{same_only}
-use Rattle.dump_grammar.proofs.KindLemmas.{kind_once}
 use Rattle.dump_grammar.proofs.PortLemmas.{decimal_lacks, port_ends}
 use Rattle.dump_grammar.proofs.ProtocolOnce.{line_once}
-use Rattle.dump_grammar.proofs.SayingLemmas.{SaysBy, says_as}
+use Rattle.dump_grammar.proofs.SayingLemmas.{SaysBy, says_both}
 
 -- a text is one range of ports
 pub port_once : (text : Text) (r s : Range) → IsPortRange text r → IsPortRange text s → r ≡ s
@@ -49,23 +50,7 @@ ports_once (text ∷ texts) (r ∷ rs) (s ∷ ss) p q =
     let rest = ports_once texts rs ss p.1 q.1 in
     cc
 
-no_list : (text : Text) (n : ℕ) → flags_of (slice_split (λ b. b == 44) text) ≡ None → IsFlagList text n → ⊥
-no_list text n none list = let h : None ≡ Some n = sym none ∙ split_list text n list in cc
-
--- a text spells one number of flags
-pub flags_once : (text : Text) (m n : ℕ) → SpellsFlags text m → SpellsFlags text n → m ≡ n
-unfolding flag_of
-flags_once text m n (inl p) (inl q) = p.1 ∙ sym q.1
-flags_once text m n (inl p) (inr (inl q)) = let f : codes "ALL" ≡ codes "NONE" = sym p.0 ∙ q.0 in cc
-flags_once text m n (inl p) (inr (inr q)) = absurd (no_list text n (subst (λ (t : Text). flags_of (slice_split (λ b. b == 44) t) ≡ None) (sym p.0) refl) q)
-flags_once text m n (inr (inl p)) (inl q) = let f : codes "NONE" ≡ codes "ALL" = sym p.0 ∙ q.0 in cc
-flags_once text m n (inr (inl p)) (inr (inl q)) = p.1 ∙ sym q.1
-flags_once text m n (inr (inl p)) (inr (inr q)) = absurd (no_list text n (subst (λ (t : Text). flags_of (slice_split (λ b. b == 44) t) ≡ None) (sym p.0) refl) q)
-flags_once text m n (inr (inr p)) (inl q) = absurd (no_list text m (subst (λ (t : Text). flags_of (slice_split (λ b. b == 44) t) ≡ None) (sym q.0) refl) p)
-flags_once text m n (inr (inr p)) (inr (inl q)) = absurd (no_list text m (subst (λ (t : Text). flags_of (slice_split (λ b. b == 44) t) ≡ None) (sym q.0) refl) p)
-flags_once text m n (inr (inr p)) (inr (inr q)) = let h : Some m ≡ Some n = sym (split_list text m p) ∙ split_list text n q in cc
-
-states_once : (text : Text) (m n : ℕ) → IsStateList text m → IsStateList text n → m ≡ n
+states_once : (text : Text) (m n : ℕ) → IsNameList state_names text m → IsNameList state_names text n → m ≡ n
 states_once text m n p q = let h : Some m ≡ Some n = sym p ∙ q in cc
 
 two_texts : (texts : List Text) (a b c d : Text) → texts ≡ a ∷ b ∷ [] → texts ≡ c ∷ d ∷ [] → (a ≡ c) × (b ≡ d)
@@ -98,23 +83,18 @@ module _ {W : ℕ} (Reads : Text → ℕ → Type 0) (groups : List Group) where
         let same = same_only arguments text other a b in
         let range = one_range other r s (subst (λ (t : Text). IsRangeText Reads t r) same i) j in
         x ∙ ap (λ (q : Range). Prim (addresses_at side (q ∷ []))) range ∙ sym y
-    by_once Kind.State arguments negated d e (text, m, (a, i, x)) (other, n, (b, j, y)) =
+    by_once Kind.States arguments negated d e (text, m, (a, i, x)) (other, n, (b, j, y)) =
         let same = same_only arguments text other a b in
-        let states = states_once other m n (subst (λ (t : Text). IsStateList t m) same i) j in
+        let states = states_once other m n (subst (λ (t : Text). IsNameList state_names t m) same i) j in
         x ∙ ap (λ (q : ℕ). Prim (Prim_.State q)) states ∙ sym y
-    by_once Kind.ConnectionState arguments negated d e (text, m, (a, i, x)) (other, n, (b, j, y)) =
-        let same = same_only arguments text other a b in
-        let states = states_once other m n (subst (λ (t : Text). IsStateList t m) same i) j in
-        x ∙ ap (λ (q : ℕ). Prim (Prim_.State q)) states ∙ sym y
+    by_once Kind.Base arguments negated d e says other = absurd says
     by_once Kind.Comment arguments negated d e (text, (a, n, x)) (other, (b, m, y)) = x ∙ sym y
 
     pub says_once : (current option : Text) (arguments : List Text) (negated : Bool) (d e : Expr (Prim_ W)) → Says Reads groups current option arguments negated d
         → Says Reads groups current option arguments negated e → d ≡ e
     says_once current option arguments negated d e p q =
-        let a = says_as Reads groups current option arguments negated d p in
-        let b = says_as Reads groups current option arguments negated e q in
-        let same = kind_once b.0 a.0 (b.1.0 ∙ sym a.1.0) (b.1.1 ∙ sym a.1.1) in
-        by_once a.0 arguments negated d e a.1.2 (subst (λ (k : Kind). SaysBy Reads groups k arguments negated e) same b.1.2)
+        let both = says_both Reads groups current option arguments negated d e p q in
+        by_once both.0 arguments negated d e both.1.0 both.1.1
 
     pub option_once : (current : Option Text) (negated : Bool) (option : Text) (arguments : List Text) (l m : Lit (Prim_ W)) → IsOptionLiteral Reads groups current negated option arguments l
         → IsOptionLiteral Reads groups current negated option arguments m → l ≡ m

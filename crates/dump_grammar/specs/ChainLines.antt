@@ -42,7 +42,8 @@ built_in = codes "INPUT" ∷ codes "FORWARD" ∷ codes "OUTPUT" ∷ []
 
 -- targets that never end the walk
 abbrev pub passing : List Text
-passing = codes "LOG" ∷ codes "NFLOG" ∷ codes "ULOG" ∷ codes "MARK" ∷ codes "CONNMARK" ∷ codes "TCPMSS" ∷ codes "SET" ∷ []
+passing =
+    codes "LOG" ∷ codes "NFLOG" ∷ codes "ULOG" ∷ codes "MARK" ∷ codes "CONNMARK" ∷ codes "TCPMSS" ∷ codes "SET" ∷ []
 
 -- the words of targets, which no chain has as its name
 abbrev pub target_words : List Text
@@ -54,8 +55,8 @@ policy_text (Some Verdict.Accept) = codes "ACCEPT"
 policy_text (Some Verdict.Drop) = codes "DROP"
 policy_text None = codes "-"
 
--- the words declare the chain: `:NAME` with a name that is no target's word, a policy where the chain is a built-in one and `-` where it
--- isn't, and perhaps a counter
+-- the words declare the chain: `:NAME` with a name that is no target's word, a policy where the chain is a built-in
+-- one and `-` where it isn't, and perhaps a counter
 pub record IsChainLine (words : List Word) (chain : Declared) : Type 0 where
   pub counter : List Word
   pub counted : IsMaybeCounter counter

@@ -1,9 +1,8 @@
 -- The groups of a rule line, as a division of its words.
-use Rattle.std.specs.Prelude.{ℕ, ◌≡◌, ◌⊎◌, ◌≤◌, Bool, true, false, not, ◌&&◌, ◌||◌, nat_eq, List, [], ◌∷◌, ◌++◌, length, Option, Some, None, codes, if◌then◌else◌}
-use Rattle.std.specs.List.{AllByRecursion, starts_with, list_any}
+use Rattle.std.specs.Prelude.{ℕ, ◌≡◌, ◌⊎◌, ◌≤◌, Bool, true, false, not, ◌&&◌, ◌||◌, nat_eq, List, [], ◌∷◌, ◌++◌, length, map, option_map, Option, Some, None, codes}
+use Rattle.std.specs.List.{AllByRecursion, find, starts_with, list_any}
 use Rattle.std.specs.Str.{bytes_eq}
-use Rattle.opt_table.specs.Rows.{Spelling}
-use Rattle.opt_table.specs.Options.{known_options}
+use Rattle.opt_table.specs.Options.{Spelling, known_options}
 use Rattle.dump_grammar.specs.Lines.{Text, Word, bare, texts}
 use Rattle.dump_grammar.specs.ChainLines.{is_among}
 
@@ -24,8 +23,7 @@ mark false = []
 
 -- the same as a word
 abbrev pub mark_words : Bool → List Word
-mark_words true = bare (codes "!") ∷ []
-mark_words false = []
+mark_words negated = map bare (mark negated)
 
 -- whether the text begins with `--`
 abbrev pub begins_with_dashes : Text → Bool
@@ -41,14 +39,13 @@ abbrev pub BeginsWithStop : List Word → Type 0
 BeginsWithStop [] = Unit {0}
 BeginsWithStop (word ∷ words) = stops word ≡ true
 
--- how many arguments the first row of this module and option says, where there is one
-abbrev pub arity_in_rows : List Spelling → Text → Text → Option ℕ
-arity_in_rows [] name option = None
-arity_in_rows (row ∷ rows) name option = if bytes_eq row.name name && bytes_eq row.option option then Some row.arity else arity_in_rows rows name option
+-- the row of this module and this option, where there is one; the module of an option that needs none is empty
+unfoldable pub row_of : Text → Text → Option Spelling
+row_of name option = find (λ (row : Spelling). bytes_eq row.name name && bytes_eq row.option option) known_options
 
--- the same in the table of options, where an option that needs no module stands under the empty name
+-- how many arguments that row says
 unfoldable pub arity_of : Text → Text → Option ℕ
-arity_of name option = arity_in_rows known_options name option
+arity_of name option = option_map (λ (row : Spelling). row.arity) (row_of name option)
 
 -- whether the name isn't empty and some option of the module has a row
 abbrev pub is_known_module : Text → Bool
@@ -60,7 +57,8 @@ abbrev pub arity_in : Option Text → Text → Option ℕ
 arity_in None option = None
 arity_in (Some name) option = arity_of name option
 
--- the words that an option takes: with a row as many as it says, whatever they are; without one those before the first word that stops it
+-- the words that an option takes: with a row as many as it says, whatever they are; without one those before the
+-- first word that stops it
 abbrev pub Takes : Option ℕ → List Word → List Word → Type 0
 Takes (Some count) taken rest = length taken ≡ count
 Takes None taken rest = AllByRecursion (λ word. stops word ≡ false) taken × BeginsWithStop rest
@@ -69,21 +67,22 @@ Takes None taken rest = AllByRecursion (λ word. stops word ≡ false) taken × 
 abbrev pub IsOptionName : Text → Type 0
 IsOptionName text = (begins_with_dashes text ≡ true) × (3 ≤ length text)
 
--- the group stands at the front of the words and `rest` follows it, where `current` is the module that was named last, if one was
+-- the group stands at the front of the words and `rest` follows it, where `current` is the module that was named last,
+-- if one was
 abbrev pub IsGroup : Option Text → List Word → Group → List Word → Type 0
 IsGroup current words (Base negated option arguments) rest =
-    (taken : List Word) × ((words ≡ mark_words negated ++ bare option ∷ (taken ++ rest)) × (is_among base_options option ≡ true)
-    × (arity_of [] option ≡ Some (length taken)) × (texts taken ≡ arguments))
-IsGroup current words (Module name) rest = (value : Word) × ((words ≡ bare (codes "-m") ∷ value ∷ rest) × (value.text ≡ name))
+    (taken : List Word) × ((words ≡ mark_words negated ++ bare option ∷ (taken ++ rest))
+    × (is_among base_options option ≡ true) × (arity_of [] option ≡ Some (length taken)) × (texts taken ≡ arguments))
+IsGroup current words (Module name) rest =
+    (value : Word) × ((words ≡ bare (codes "-m") ∷ value ∷ rest) × (value.text ≡ name))
 IsGroup current words (ModuleOption module' negated option arguments) rest =
-    (taken : List Word) × ((words ≡ mark_words negated ++ bare option ∷ (taken ++ rest)) × (module' ≡ current) × IsOptionName option
-    × Takes (arity_in current option) taken rest × (texts taken ≡ arguments))
+    (taken : List Word) × ((words ≡ mark_words negated ++ bare option ∷ (taken ++ rest)) × (module' ≡ current)
+    × IsOptionName option × Takes (arity_in current option) taken rest × (texts taken ≡ arguments))
 
 -- the module that is named last once the group has passed
 abbrev pub current_after : Option Text → Group → Option Text
-current_after current (Base negated option arguments) = current
 current_after current (Module name) = Some name
-current_after current (ModuleOption module' negated option arguments) = current
+current_after current group = current
 
 -- the words are these groups one after another, and then `target`
 abbrev pub AreGroups : Option Text → List Word → List Group → List Word → Type 0
@@ -100,8 +99,7 @@ EndsGroups (word ∷ words) = (word ≡ bare (codes "-j")) ⊎ (word ≡ bare (c
 abbrev pub base_of : List Group → List Text
 base_of [] = []
 base_of (Base negated option arguments ∷ groups) = option ∷ base_of groups
-base_of (Module name ∷ groups) = base_of groups
-base_of (ModuleOption current negated option arguments ∷ groups) = base_of groups
+base_of (group ∷ groups) = base_of groups
 
 -- no text stands twice
 abbrev pub all_differ : List Text → Bool

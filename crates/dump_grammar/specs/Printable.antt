@@ -7,9 +7,11 @@ use Rattle.name_set.specs.declared.pattern.Pattern.{Pattern}
 use Rattle.primitives.specs.declared.prim.Prim_.{Prim_}
 use Rattle.dump_grammar.specs.Lines.{IsLine, Text}
 
--- the pattern's text has 255 bytes at most with its `+`, and no line feed; a name alone isn't empty and doesn't end in `+`
+-- the pattern's text has 255 bytes at most with its `+`, and no line feed; a name alone isn't empty and doesn't end
+-- in `+`
 abbrev pub IsPrintable : Pattern → Type 0
-IsPrintable (Pattern.Exact name) = (1 ≤ length name) × (length name ≤ 255) × ((front : Text) → name ≡ front ++ codes "+" → ⊥) × IsLine name
+IsPrintable (Pattern.Exact name) =
+    (1 ≤ length name) × (length name ≤ 255) × ((front : Text) → name ≡ front ++ codes "+" → ⊥) × IsLine name
 IsPrintable (Pattern.Prefix front) = (length front ≤ 254) × IsLine front
 
 module _ {W : ℕ} where

@@ -21,7 +21,11 @@ module _ {W : ℕ} where
   -- the chains in the order in which they are declared, each with its rules in the order of the text
   abbrev pub dump_of : List Declared → List (Placed W) → Dump (Prim_ W)
   dump_of chains rules = record {
-    chains = map (λ (c : Declared). record { name = c.name; policy = c.policy; rules = map rule_of (filter (is_in c.name) rules) }) chains;
+    chains = map (λ (c : Declared). record {
+      name = c.name;
+      policy = c.policy;
+      rules = map rule_of (filter (is_in c.name) rules);
+    }) chains;
   }
 
 module _ (W : ℕ) (Reads : Text → ℕ → Type 0) where

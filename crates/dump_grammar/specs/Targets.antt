@@ -16,15 +16,20 @@ IsRejectOption following = (following ≡ []) ⊎ ((kind : Word) × (following �
 -- `-j NAME` and the words that follow it are this action; `names` are the declared chains, in order
 abbrev pub IsJump : List Text → Text → List Word → Action → Type 0
 IsJump names name following Action.Accept = (name ≡ codes "ACCEPT") × (following ≡ [])
-IsJump names name following Action.Drop = ((name ≡ codes "DROP") × (following ≡ [])) ⊎ ((name ≡ codes "REJECT") × IsRejectOption following)
+IsJump names name following Action.Drop =
+    ((name ≡ codes "DROP") × (following ≡ [])) ⊎ ((name ≡ codes "REJECT") × IsRejectOption following)
 IsJump names name following Action.Back = (name ≡ codes "RETURN") × (following ≡ [])
 IsJump names name following Action.Pass = is_among passing name ≡ true
-IsJump names name following (Action.Call k) = (is_among target_words name ≡ false) × (user_chain names name ≡ Some k) × (following ≡ [])
-IsJump names name following (Action.Other shown) = (is_among target_words name ≡ false) × (user_chain names name ≡ None) × (shown ≡ name)
+IsJump names name following (Action.Call k) =
+    (is_among target_words name ≡ false) × (user_chain names name ≡ Some k) × (following ≡ [])
+IsJump names name following (Action.Other shown) =
+    (is_among target_words name ≡ false) × (user_chain names name ≡ None) × (shown ≡ name)
 
--- the words are a target with this action: none at all, `-j NAME` and what may follow, or `-g NAME`, which isn't supported
+-- the words are a target with this action: none at all, `-j NAME` and what may follow, or `-g NAME`, which isn't
+-- supported
 abbrev pub IsTarget : List Text → List Word → Action → Type 0
 IsTarget names words action =
     ((words ≡ []) × (action ≡ Action.Pass))
-    ⊎ ((name : Word) × (following : List Word) × ((words ≡ bare (codes "-j") ∷ name ∷ following) × IsJump names name.text following action))
+    ⊎ ((name : Word) × (following : List Word)
+    × ((words ≡ bare (codes "-j") ∷ name ∷ following) × IsJump names name.text following action))
     ⊎ ((name : Word) × ((words ≡ bare (codes "-g") ∷ name ∷ []) × (action ≡ Action.Other (codes "-g"))))

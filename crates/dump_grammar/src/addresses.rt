@@ -3,17 +3,17 @@ ghost use Rattle.fw_rule.specs.declared.rule.Lit.{Lit as ALit};
 ghost use Rattle.interval_set.specs.Numbers.{IsWidth};
 ghost use Rattle.primitives.specs.declared.prim.Prim_.{Prim_ as APrim};
 ghost use Rattle.dump_grammar.specs.Groups.{Group as AGroup};
-ghost use Rattle.dump_grammar.specs.Kinds.{addresses_at};
+ghost use Rattle.opt_table.specs.Rows.{addresses_at};
 ghost use Rattle.dump_grammar.specs.Lines.{texts, words_of};
 ghost use Rattle.dump_grammar.specs.Literals.{IsNetLiteral, text_of};
 
-use crate::kinds::Side;
 use crate::unknown::option_text;
 use addr_text::{Family, Net, read_net};
 use dump_token::Token;
 use fw_rule::Lit;
 use interval_set::Set;
 use match_expr::Expr;
+use opt_table::Side;
 use primitives::Prim_;
 use std::alloc::{AllocError, Global};
 

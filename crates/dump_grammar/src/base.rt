@@ -6,13 +6,13 @@ ghost use Rattle.dump_grammar.specs.Lines.{Text, texts, words_of};
 ghost use Rattle.dump_grammar.specs.Literals.{IsBaseLiteral};
 
 use crate::addresses::net_literal;
-use crate::kinds::Side;
 use crate::literals::{name_literal, protocol_literal};
 use crate::pieces::{first_word, is_same};
 use crate::unknown::option_text;
 use addr_text::Family;
 use dump_token::Token;
 use fw_rule::Lit;
+use opt_table::Side;
 use primitives::Prim_;
 use std::alloc::{AllocError, Global};
 

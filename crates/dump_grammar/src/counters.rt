@@ -2,7 +2,8 @@ ghost use Rattle.std.specs.Prelude.{◌≡◌, ◌↔◌, IsTrue};
 ghost use Rattle.dump_grammar.specs.ChainLines.{IsCounter, IsCounterText, IsDigits, IsMaybeCounter};
 ghost use Rattle.dump_grammar.specs.Lines.{word_of, words_of};
 
-use crate::pieces::{first_byte, first_word, last_byte, parted};
+use crate::pieces::{first_byte, first_word, last_byte};
+use basics::parted;
 use dump_token::Token;
 
 fn is_digits(text: &[u8]) -> bool

@@ -8,7 +8,6 @@ mod counters;
 mod division;
 mod grouping;
 mod heads;
-mod kinds;
 mod law;
 mod line_literals;
 mod literals;
@@ -21,7 +20,6 @@ mod protocols;
 mod reading;
 mod rule;
 mod saying;
-mod states;
 mod targets;
 mod unknown;
 
@@ -34,10 +32,4 @@ pub use patterns::pattern;
 pub use ports::port_range;
 pub use reading::rule_line;
 pub use rule::RuleLine;
-pub use states::state_list;
 pub use targets::jump;
-
-#[cfg(test)]
-mod rule_tests;
-#[cfg(test)]
-mod tests;

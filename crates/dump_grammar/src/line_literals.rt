@@ -13,7 +13,7 @@ ghost use Rattle.dump_grammar.specs.Literals.{AreLiterals, IsOptionLiteral, modu
 
 use crate::base::base_literal;
 use crate::grouping::GroupWords;
-use crate::kinds::known_kind;
+use crate::options::known_kind;
 use crate::protocols::line_protocol;
 use crate::saying::said;
 use crate::unknown::{module_name_text, option_text};

@@ -7,7 +7,6 @@ ghost use Rattle.dump_grammar.specs.Kinds.{names_at};
 ghost use Rattle.dump_grammar.specs.Lines.{texts, words_of};
 ghost use Rattle.dump_grammar.specs.Literals.{IsEveryProtocol, IsNameLiteral, IsPattern, IsProtocolLiteral, text_of};
 
-use crate::kinds::Side;
 use crate::patterns::pattern;
 use crate::pieces::is_same;
 use crate::unknown::option_text;
@@ -15,6 +14,7 @@ use dump_token::Token;
 use fw_rule::Lit;
 use match_expr::Expr;
 use name_set::Pattern;
+use opt_table::Side;
 use primitives::{Prim_, ProtoNum, read_proto};
 use std::alloc::{AllocError, Global};
 

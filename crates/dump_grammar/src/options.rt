@@ -1,13 +1,15 @@
-ghost use Rattle.std.specs.Prelude.{◌≡◌, ◌≢◌, ◌↔◌, ◌<◌, ◌++◌, ◌∷◌, Bool as Truth, List as Seq, IfSome, IfNone, IsTrue, length, false, codes};
+ghost use Rattle.std.specs.Prelude.{◌≡◌, ◌≢◌, ◌↔◌, ◌<◌, ◌++◌, ◌∷◌, Bool as Truth, List as Seq, IfSome, IfNone, IsTrue, length, option_map, false, codes};
 ghost use Rattle.std.specs.List.{AllByRecursion};
 ghost use Rattle.dump_grammar.specs.ChainLines.{is_among};
 ghost use Rattle.dump_grammar.specs.Groups.{BeginsWithStop, IsOptionName, Takes, arity_of, base_options, begins_with_dashes, mark_words, stops};
+ghost use Rattle.dump_grammar.specs.Kinds.{form_named};
 ghost use Rattle.dump_grammar.specs.Lines.{Text, Word, bare, word_of, words_of};
+ghost use Rattle.opt_table.specs.Rows.{form_of};
 
 use crate::names::any_of;
 use crate::pieces::{first_word, is_same};
 use dump_token::Token;
-use opt_table::options;
+use opt_table::{Kind, options};
 
 static BASE_OPTIONS: [&[u8]; 6] = [b"-s", b"-d", b"-i", b"-o", b"-p", b"-f"];
 
@@ -49,6 +51,17 @@ pub(crate) fn arity(named: &[u8], option: &[u8]) -> Option<usize>
     let table = options();
     match table.find(named, option) {
         Some(at) => Some(table.row(at).arity as usize),
+        None => None,
+    }
+}
+
+/// The kind of the option of a module, where it has a row.
+pub(crate) fn known_kind(named: &[u8], option: &[u8]) -> Option<Kind>
+    ensures { option_map form_of result ≡ form_named named.now option.now }
+{
+    let table = options();
+    match table.find(named, option) {
+        Some(at) => Some(table.row(at).kind),
         None => None,
     }
 }

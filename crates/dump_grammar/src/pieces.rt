@@ -1,5 +1,4 @@
 ghost use Rattle.std.specs.Prelude.{◌≡◌, ◌↔◌, ◌++◌, ◌∷◌, [], ℕ, List as Seq, IfSome, IfNone, IsTrue};
-ghost use Rattle.addr_text.specs.Parts.{Lacks};
 ghost use Rattle.dump_grammar.specs.Lines.{bare, word_of};
 ghost use Rattle.dump_token.specs.declared.token.Token.{Token as AToken};
 
@@ -35,19 +34,6 @@ pub(crate) fn last_byte(text: &[u8]) -> Option<(u8, &[u8])>
 {
     let (byte, rest) = text.split_last()?;
     Some((*byte, rest))
-}
-
-/// What stands before the first byte of a kind, and after it.
-pub(crate) fn parted(text: &[u8], at: u8) -> Option<(&[u8], &[u8])>
-    ensures some { IfSome result (λ p. (text.now ≡ p.0.now ++ at ∷ p.1.now) × Lacks at p.0.now) }
-    ensures none { IfNone result (Lacks at text.now) }
-{
-    for (i, b) in text.iter().enumerate() {
-        if *b == at {
-            return Some((&text[..i], &text[i + 1..]));
-        }
-    }
-    None
 }
 
 /// The first word, and those after it.

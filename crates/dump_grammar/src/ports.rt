@@ -5,8 +5,8 @@ ghost use Rattle.interval_set.specs.Numbers.{has};
 ghost use Rattle.interval_set.specs.Spelling.{ranges_where};
 ghost use Rattle.dump_grammar.specs.Arguments.{IsPortList, IsPortRange};
 
-use crate::pieces::parted;
 use addr_text::read_number;
+use basics::parted;
 use interval_set::{Range, Set};
 use std::alloc::{AllocError, Global};
 

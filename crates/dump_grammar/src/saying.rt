@@ -7,23 +7,25 @@ ghost use Rattle.match_expr.specs.declared.expr.Expr.{Expr as AnExpr};
 ghost use Rattle.match_expr.specs.declared.expr.Expr.TheVariants.{Prim as OneTest};
 ghost use Rattle.primitives.specs.declared.prim.Prim_.{Prim_ as APrim};
 ghost use Rattle.primitives.specs.Ports.{HasPorts};
+ghost use Rattle.primitives.specs.Tables.{IsNameList, state_names};
 ghost use Rattle.primitives.specs.Words.{SpellsFlags};
-ghost use Rattle.dump_grammar.specs.Arguments.{IsPortList, IsPortRange, IsStateList, Says, either_port};
+ghost use Rattle.dump_grammar.specs.Arguments.{FormSays, IsPortList, IsPortRange};
 ghost use Rattle.dump_grammar.specs.Groups.{Group as AGroup};
-ghost use Rattle.dump_grammar.specs.Kinds.{HasProtocol, addresses_at, module_name, option_name, ports_at, transport_number};
+ghost use Rattle.dump_grammar.specs.Kinds.{HasProtocol};
 ghost use Rattle.dump_grammar.specs.Lines.{Text, texts, words_of};
+ghost use Rattle.opt_table.specs.Options.{either_port};
+ghost use Rattle.opt_table.specs.Rows.{addresses_at, form_of, ports_at, transport_number};
 
 use crate::addresses::address_test;
 use crate::base::only;
-use crate::kinds::{Kind, Side, Transport};
 use crate::pieces::first_word;
 use crate::ports::{port_list, port_range, port_set, range_set};
-use crate::states::state_list;
 use addr_text::{Family, read_range};
 use dump_token::Token;
 use interval_set::Set;
 use match_expr::{Boxed, Expr, Items};
-use primitives::{PortMatch, Prim_, read_flags};
+use opt_table::{Kind, Side, Transport};
+use primitives::{PortMatch, Prim_, read_flags, read_states};
 use std::alloc::{AllocError, Global};
 
 fn port_test<const W: u32>(side: Side, proto: u8, set: Set<16>) -> Expr<Prim_<W>>
@@ -175,13 +177,15 @@ fn address_range<F: Family<W>, const W: u32>(
 }
 
 fn states<const W: u32>(arguments: &[Token]) -> Option<Expr<Prim_<W>>>
-    ensures some { IfSome result (λ e. (text : Text) × (m : ℕ) × ((texts (words_of arguments.now) ≡ text ∷ []) × IsStateList text m × (e ≡ OneTest (APrim.State m)))) }
-    ensures none { IfNone result ((text : Text) (m : ℕ) → texts (words_of arguments.now) ≡ text ∷ [] → IsStateList text m → ⊥) }
+    ensures some { IfSome result (λ e. (text : Text) × (m : ℕ) × ((texts (words_of arguments.now) ≡ text ∷ [])
+        × IsNameList state_names text m × (e ≡ OneTest (APrim.State m)))) }
+    ensures none { IfNone result ((text : Text) (m : ℕ) → texts (words_of arguments.now) ≡ text ∷ []
+        → IsNameList state_names text m → ⊥) }
 {
     let Some(text) = only(arguments) else {
         return None;
     };
-    let Some(states) = state_list(text) else {
+    let Some(states) = read_states(text) else {
         return None;
     };
     Some(Expr::Prim(Prim_::State(states)))
@@ -212,18 +216,20 @@ pub(crate) fn said<F: Family<W>, const W: u32>(
     ghost groups: { Seq AGroup }
     requires width { IsWidth W }
     requires protocol { HasProtocol groups protocol }
-    ensures some { IfOk result (λ o. IfSome o (λ e. Says F.Reads groups (module_name kind) (option_name kind) (texts (words_of arguments.now)) negated e)) }
-    ensures none { IfOk result (λ o. IfNone o ((e : AnExpr (APrim W)) → Says F.Reads groups (module_name kind) (option_name kind) (texts (words_of arguments.now)) negated e → ⊥)) }
+    ensures some { IfOk result (λ o. IfSome o (λ e.
+        FormSays F.Reads groups (form_of kind) (texts (words_of arguments.now)) negated e)) }
+    ensures none { IfOk result (λ o. IfNone o ((e : AnExpr (APrim W)) →
+        FormSays F.Reads groups (form_of kind) (texts (words_of arguments.now)) negated e → ⊥)) }
 {
     match kind {
+        Kind::Base => Ok(None),
         Kind::Port(transport, side) => port(alloc, transport, side, arguments),
         Kind::Flags => Ok(flags(arguments)),
         Kind::Syn => Ok(syn(arguments)),
         Kind::Ports(side) => ports(alloc, side, arguments, protocol),
         Kind::EitherPorts => either_ports(alloc, arguments, protocol),
         Kind::Addresses(side) => address_range::<F, W>(alloc, side, arguments),
-        Kind::State => Ok(states(arguments)),
-        Kind::ConnectionState => Ok(states(arguments)),
+        Kind::States => Ok(states(arguments)),
         Kind::Comment => Ok(comment(arguments, negated)),
     }
 }

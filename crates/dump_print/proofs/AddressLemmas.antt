@@ -1,17 +1,10 @@
 -- Ranges of addresses, and the length of the prefix that is one.
-use Rattle.std.proofs.Common.{◌≡◌, ◌+◌, ◌-◌, ◌^◌, ◌≤◌, ◌<◌, ⊎_elim, ℕ, zero, suc, List, [], ◌∷◌, Bool, true, false, Option, None, Some, IfSome, if◌then◌else◌, refl, sym, subst, arith}
-use Rattle.std.specs.List.{AllByRecursion}
+use Rattle.std.proofs.Common.{◌≡◌, ◌≤◌, ◌<◌, ⊎_elim, ℕ, zero, suc, Bool, true, false, Option, None, Some, IfSome, if◌then◌else◌, refl, sym, subst, arith}
 use Rattle.std.proofs.lemmas.Bool.{cases_lt}
 use Rattle.std.proofs.lemmas.Bool.Decides.{nat_tests}
 use Rattle.interval_set.specs.declared.set.Range.{Range}
-use Rattle.interval_set.specs.Numbers.{Ascends}
 use Rattle.interval_set.specs.Prefix.{IsPrefix, prefix_range}
-use Rattle.dump_print.specs.Addresses.{IsRangeOf, prefix_length, prefix_length_to, same_range}
-
--- each range of a set begins with its least number, and ends below 2 ^ w
-pub ranges_of : (w from : ℕ) (rs : List Range) → Ascends (2 ^ w - 1) from rs → AllByRecursion (IsRangeOf w) rs
-ranges_of w from [] a = tt
-ranges_of w from (r ∷ rs) a = ((a.1, a.2), ranges_of w (r.hi + 2) rs a.3)
+use Rattle.dump_print.specs.Addresses.{prefix_length, prefix_length_to, same_range}
 
 same_ends : (a b : Range) → same_range a b ≡ true → (a.lo ≡ b.lo) × (a.hi ≡ b.hi)
 same_ends a b e = (grind (arith, nat_tests), grind (arith, nat_tests))

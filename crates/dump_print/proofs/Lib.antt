@@ -5,11 +5,8 @@ pub mod FlagLemmas
 pub mod HelperLemmas
 pub mod LineLemmas
 pub mod NameLemmas
-pub mod NamedLemmas
-pub mod NumberLemmas
 pub mod PortCover
 pub mod PortLemmas
-pub mod SetLemmas
 pub mod SpacedLemmas
 pub mod Steps
 pub mod WordCover

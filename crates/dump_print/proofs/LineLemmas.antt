@@ -10,7 +10,8 @@ use Rattle.dump_print.specs.declared.flags.FlagCube.{FlagCube}
 use Rattle.dump_print.specs.Parts.{Choice, option_words, rule_words, with_flags}
 use Rattle.dump_print.specs.Spelling.{line_text, lines_text, spaced}
 use Rattle.dump_print.proofs.SpacedLemmas.{spaced_joined}
-use Rattle.dump_print.proofs.Steps.{flat_more, grown}
+use Rattle.primitives.proofs.Growing.{grown}
+use Rattle.dump_print.proofs.Steps.{flat_more}
 
 -- ---- one line
 regroup : (old a c p o n : List ℕ) → ((old ++ (a ++ c)) ++ p) ++ (o ++ n) ≡ old ++ (a ++ ((c ++ (p ++ o)) ++ n))

@@ -2,7 +2,8 @@
 use Rattle.std.proofs.Common.{◌≡◌, ◌++◌, ◌<◌, ◌+◌, ℕ, List, [], ◌∷◌, Bool, true, false, not, ◌&&◌, length, take, get_or, refl, ap, sym, ◌∙◌, append_assoc, ◌==◌, ◌||◌, if◌then◌else◌, arith}
 use Rattle.std.proofs.lemmas.List.{take_more}
 use Rattle.std.specs.List.{list_all}
-use Rattle.dump_print.specs.Names.{begins_plainly, is_plain_byte}
+use Rattle.primitives.specs.Bytes.{is_plain_byte}
+use Rattle.dump_print.specs.Names.{begins_plainly}
 use Rattle.dump_print.specs.Spelling.{escaped}
 
 escape_step : (quote : Bool) (x : ℕ) (a b c : List ℕ) → c ≡ a ++ b →

@@ -5,7 +5,8 @@ use Rattle.std.proofs.lemmas.Bool.Decides.{nat_tests}
 use Rattle.std.specs.List.{flat_map}
 use Rattle.interval_set.specs.declared.set.Range.{Range}
 use Rattle.dump_print.specs.Ports.{chunks, chunks_after, port_list, port_text, unless_empty, weight_of}
-use Rattle.dump_print.proofs.Steps.{flat_more, grown}
+use Rattle.primitives.proofs.Growing.{grown}
+use Rattle.dump_print.proofs.Steps.{flat_more}
 
 pub weight_joined : (a b : List Range) → weight_of (a ++ b) ≡ weight_of a + weight_of b
 weight_joined [] b = omega arith

@@ -5,7 +5,8 @@ use Rattle.std.proofs.lemmas.List.{append-nil}
 use Rattle.dump_grammar.specs.Lines.{Word, bare}
 use Rattle.dump_print.specs.Parts.{has_words, module_words}
 use Rattle.dump_print.specs.Spelling.{spaced, spelled}
-use Rattle.dump_print.proofs.Steps.{flat_more, grown}
+use Rattle.primitives.proofs.Growing.{grown}
+use Rattle.dump_print.proofs.Steps.{flat_more}
 
 pub spaced_joined : (a b : List Word) → spaced (a ++ b) ≡ spaced a ++ spaced b
 spaced_joined [] b = refl

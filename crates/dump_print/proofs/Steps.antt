@@ -1,14 +1,9 @@
 -- A text that grows piece by piece.
-use Rattle.std.proofs.Common.{◌≡◌, ◌∙◌, ◌++◌, ◌+◌, ◌<◌, ℕ, List, [], ◌∷◌, length, take, get_or, Result, Ok, Err, OnErr, OnOk, is_ok, if◌then◌else◌, ap, sym, append_assoc, subst}
+use Rattle.std.proofs.Common.{◌≡◌, ◌∙◌, ◌++◌, ◌+◌, ◌<◌, ℕ, List, [], ◌∷◌, length, take, get_or, Result, Ok, Err, OnErr, ap, subst}
 use Rattle.std.proofs.lemmas.List.{append-nil, take_more}
 use Rattle.std.proofs.lemmas.List.Concat.{flat_map-append}
 use Rattle.std.specs.List.{flat_map}
 use Rattle.addr_text.proofs.Writing.{keeps_front}
-
--- one piece more
-pub grown : {A : Type 0} (old more mid piece new total : List A) → mid ≡ old ++ more → new ≡ mid ++ piece → total ≡ more ++ piece → new ≡ old ++ total
-grown old more mid piece new total a b e =
-    b ∙ ap (λ l. l ++ piece) a ∙ append_assoc old more piece ∙ ap (λ l. old ++ l) (sym e)
 
 -- the results of one item more
 pub flat_more : {X A : Type 0} (f : X → List A) (xs : List X) (i : ℕ) (d : X) → i < length xs →
@@ -16,12 +11,6 @@ pub flat_more : {X A : Type 0} (f : X → List A) (xs : List X) (i : ℕ) (d : X
 flat_more f xs i d l =
     ap (flat_map f) (take_more xs i d l) ∙ flat_map-append f (take i xs) (get_or xs i d ∷ [])
     ∙ ap (λ t. flat_map f (take i xs) ++ t) (append-nil (f (get_or xs i d)))
-
--- a text that was put behind another one
-pub extended : {T E : Type 0} (r : Result T E) (old mid new piece total : List ℕ) → new ≡ (if is_ok r then mid ++ piece else mid) → mid ≡ old → piece ≡ total →
-    OnOk r (new ≡ old ++ total)
-extended (Ok x) old mid new piece total h k e = h ∙ (λ i. k i ++ e i)
-extended (Err x) old mid new piece total h k e = tt
 
 -- what stood there before a piece that failed
 pub kept : (old more mid new : List ℕ) → mid ≡ old ++ more → take (length mid) new ≡ mid → take (length old) new ≡ old

@@ -1,5 +1,5 @@
 -- How ranges of addresses are written.
-use Rattle.std.specs.Prelude.{ℕ, zero, suc, ◌==◌, ◌-◌, ◌^◌, ◌≤◌, ◌&&◌, ◌++◌, ◌∷◌, [], List, Bool, Option, Some, None, codes, decimal, if◌then◌else◌}
+use Rattle.std.specs.Prelude.{ℕ, zero, suc, ◌==◌, ◌-◌, ◌^◌, ◌&&◌, ◌++◌, ◌∷◌, [], List, Bool, Option, Some, None, codes, decimal, if◌then◌else◌}
 use Rattle.interval_set.specs.declared.set.Range.{Range}
 use Rattle.interval_set.specs.Prefix.{prefix_range}
 use Rattle.dump_grammar.specs.Lines.{Text, Word, bare}
@@ -7,10 +7,6 @@ use Rattle.dump_grammar.specs.Lines.{Text, Word, bare}
 -- whether the range has every number of w bits
 abbrev pub is_everything : ℕ → Range → Bool
 is_everything w r = (r.lo == 0) && (r.hi == 2 ^ w - 1)
-
--- the range begins with its least number, and ends below 2 ^ w
-abbrev pub IsRangeOf : ℕ → Range → Type 0
-IsRangeOf w r = (r.lo ≤ r.hi) × (r.hi ≤ 2 ^ w - 1)
 
 abbrev pub same_range : Range → Range → Bool
 same_range a b = (a.lo == b.lo) && (a.hi == b.hi)

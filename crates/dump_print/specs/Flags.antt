@@ -1,22 +1,7 @@
 -- How sets of flags of tcp are written: as cubes, each a mask and those of its flags that are set.
-use Rattle.std.specs.Prelude.{ℕ, zero, suc, ◌+◌, ◌*◌, ◌^◌, ◌==◌, ◌&&◌, ◌++◌, ◌∷◌, [], List, Bool, true, false, not, map, filter, codes, bit_and, if◌then◌else◌}
-use Rattle.std.specs.List.{join_by}
-use Rattle.primitives.specs.Words.{Named, flag_names}
+use Rattle.std.specs.Prelude.{ℕ, zero, suc, ◌+◌, ◌*◌, ◌^◌, ◌&&◌, ◌++◌, ◌∷◌, [], List, Bool, true, false, not, map, if◌then◌else◌}
 use Rattle.primitives.specs.Holds.{has_bit}
-use Rattle.dump_grammar.specs.Lines.{Text}
 use Rattle.dump_print.specs.declared.flags.FlagCube.{FlagCube}
-
--- the names of the bits that are set, in order
-abbrev pub names_of : List Named → ℕ → List Text
-names_of words bits = map (λ (w : Named). w.name) (filter (λ (w : Named). bit_and bits w.number == w.number) words)
-
--- the names with commas between them
-abbrev pub name_list : List Named → ℕ → Text
-name_list words bits = join_by (λ (name : Text). name) (codes ",") (names_of words bits)
-
--- a list of flags, and NONE for no flag
-abbrev pub flags_text : ℕ → Text
-flags_text flags = if flags == 0 then codes "NONE" else name_list flag_names flags
 
 -- whether the test holds of each number below
 abbrev pub all_below : ℕ → (ℕ → Bool) → Bool

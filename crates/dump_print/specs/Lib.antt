@@ -9,9 +9,6 @@ pub mod PortCover
 pub mod Ports
 pub mod Printed
 pub mod Protocols
-pub mod Sets
 pub mod Spelling
-pub mod States
-pub mod Tables
 pub mod Views
 pub mod Written

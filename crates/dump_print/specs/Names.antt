@@ -1,8 +1,9 @@
 -- How patterns of interface names are written, and which sets of names one line can say.
-use Rattle.std.specs.Prelude.{ℕ, ◌==◌, ◌&&◌, ◌||◌, ◌++◌, ◌∷◌, [], List, Bool, true, false, not, nat_le, codes}
-use Rattle.std.specs.List.{list_all, list_any}
+use Rattle.std.specs.Prelude.{ℕ, ◌==◌, ◌&&◌, ◌||◌, ◌++◌, ◌∷◌, [], List, Bool, true, false, not, codes}
+use Rattle.std.specs.List.{list_all}
 use Rattle.name_set.specs.declared.pattern.Pattern.{Pattern}
 use Rattle.name_set.specs.declared.set.NameSet.{NameSet}
+use Rattle.primitives.specs.Bytes.{is_plain_byte}
 use Rattle.dump_grammar.specs.Lines.{Text, Word}
 use Rattle.dump_print.specs.Spelling.{spelled}
 
@@ -10,12 +11,6 @@ use Rattle.dump_print.specs.Spelling.{spelled}
 abbrev pub pattern_name : Pattern → Text
 pattern_name (Pattern.Exact text) = text
 pattern_name (Pattern.Prefix text) = text ++ codes "+"
-
--- a letter, a digit, or one of `._+:@/-`
-abbrev pub is_plain_byte : ℕ → Bool
-is_plain_byte b =
-    (nat_le 97 b && nat_le b 122) || (nat_le 65 b && nat_le b 90) || (nat_le 48 b && nat_le b 57)
-    || list_any (λ c. c == b) (codes "._+:@/-")
 
 -- there is a first byte, and it is no `-`
 abbrev pub begins_plainly : Text → Bool

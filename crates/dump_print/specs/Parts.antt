@@ -4,15 +4,15 @@ use Rattle.std.specs.List.{flat_map}
 use Rattle.interval_set.specs.declared.set.Range.{Range}
 use Rattle.name_set.specs.declared.pattern.Pattern.{Pattern}
 use Rattle.name_set.specs.declared.set.NameSet.{NameSet}
+use Rattle.primitives.specs.Tables.{name_list, state_names}
+use Rattle.primitives.specs.Words.{flags_text}
 use Rattle.dump_grammar.specs.Lines.{Text, Word, bare}
 use Rattle.dump_print.specs.declared.flags.FlagCube.{FlagCube}
 use Rattle.dump_print.specs.Addresses.{range_words}
-use Rattle.dump_print.specs.Flags.{flags_text}
 use Rattle.dump_print.specs.Names.{name_word, is_every_name, is_plain_names}
 use Rattle.dump_print.specs.Ports.{Ports, port_list, port_text}
 use Rattle.dump_print.specs.declared.protocols.Protocols.{Protocols}
 use Rattle.dump_print.specs.Protocols.{protocol_text}
-use Rattle.dump_print.specs.States.{states_text}
 
 -- an option and its argument
 abbrev pub option_words : Text → Word → List Word
@@ -79,7 +79,7 @@ own_module_words _ words = []
 -- the states, unless all five are meant
 abbrev pub state_words : ℕ → List Word
 state_words states = if states == 31 then [] else
-    module_words (codes "conntrack") (option_words (codes "--ctstate") (bare (states_text states)))
+    module_words (codes "conntrack") (option_words (codes "--ctstate") (bare (name_list state_names states)))
 
 -- what one line of a cube says where the others may say something else
 pub record Choice : Type 0 where

@@ -1,18 +1,14 @@
 -- How protocols are written, and which sets of protocols one line can say.
-use Rattle.std.specs.Prelude.{ℕ, zero, suc, ◌+◌, ◌-◌, ◌==◌, ◌∷◌, [], List, Bool, true, false, nat_lt, ◌&&◌, decimal, if◌then◌else◌}
+use Rattle.std.specs.Prelude.{ℕ, zero, suc, ◌+◌, ◌-◌, ◌==◌, ◌∷◌, [], List, Bool, true, false, nat_lt, ◌&&◌, if◌then◌else◌}
 use Rattle.std.specs.List.{flat_map}
 use Rattle.interval_set.specs.declared.set.Range.{Range}
 use Rattle.interval_set.specs.Spelling.{set_not}
-use Rattle.primitives.specs.Words.{Named, proto_names}
+use Rattle.primitives.specs.Tables.{name_of, proto_names}
 use Rattle.dump_grammar.specs.Lines.{Text}
 use Rattle.dump_print.specs.declared.protocols.Protocols.{Protocols}
 use Rattle.dump_print.specs.Addresses.{is_everything}
 
 -- the first name of the number, or the number
-abbrev pub name_of : List Named → ℕ → Text
-name_of [] n = decimal n
-name_of (word ∷ words) n = if word.number == n then word.name else name_of words n
-
 abbrev pub protocol_text : ℕ → Text
 protocol_text n = name_of proto_names n
 

@@ -1,19 +1,21 @@
 ghost use Rattle.std.specs.Prelude.{◌≡◌, ◌++◌, OnOk, Some};
 ghost use Rattle.interval_set.specs.Numbers.{IsWidth};
+ghost use Rattle.primitives.specs.Ranges.{IsRange};
 ghost use Rattle.dump_grammar.specs.Lines.{Text};
-ghost use Rattle.dump_print.specs.Addresses.{IsRangeOf, is_everything, net_words, net_words_of, prefix_length, range_words};
+ghost use Rattle.dump_print.specs.Addresses.{is_everything, net_words, net_words_of, prefix_length, range_words};
 ghost use Rattle.dump_print.specs.Parts.{both_words, has_words, iprange_words};
 ghost use Rattle.dump_print.specs.Spelling.{spaced};
 
-use crate::writer::{append_number, append_word, append_words};
+use crate::writer::{append_word, append_words};
 use addr_text::Family;
 use interval_set::{Range, Set, prefix_len};
+use primitives::append_number;
 use std::alloc::AllocError;
 
 // The length of the prefix that is the range.
 fn length_of<const W: u32>(range: Range) -> Option<u32>
     requires width { IsWidth W }
-    requires range { IsRangeOf W range }
+    requires range { IsRange W range }
     ensures { result ≡ prefix_length W range }
 {
     prefix_len::<W>(range.lo, range.hi)
@@ -34,7 +36,7 @@ pub(crate) fn append_net<F: Family<W>, const W: u32>(
     out: &mut Vec<u8>,
 ) -> Result<(), AllocError>
     requires width { IsWidth W }
-    requires range { IsRangeOf W range }
+    requires range { IsRange W range }
     ensures { OnOk result (out.new.items ≡ out.old.items ++ spaced (net_words F.text_of W option.now range)) }
 {
     if is_every::<W>(range) {
@@ -53,7 +55,7 @@ fn append_prefix<F: Family<W>, const W: u32>(
     out: &mut Vec<u8>,
 ) -> Result<(), AllocError>
     requires width { IsWidth W }
-    requires range { IsRangeOf W range }
+    requires range { IsRange W range }
     ensures { OnOk result (out.new.items ≡ out.old.items ++ spaced (net_words_of F.text_of W option.now range (Some len))) }
 {
     append_word(option, out)?;
@@ -70,7 +72,7 @@ fn append_range<F: Family<W>, const W: u32>(
     out: &mut Vec<u8>,
 ) -> Result<(), AllocError>
     requires width { IsWidth W }
-    requires range { IsRangeOf W range }
+    requires range { IsRange W range }
     ensures { OnOk result (out.new.items ≡ out.old.items ++ spaced (range_words F.text_of W option.now range)) }
 {
     if length_of::<W>(range).is_some() {
@@ -86,7 +88,7 @@ fn append_range<F: Family<W>, const W: u32>(
 // Whether the range is no prefix.
 fn has_range<F: Family<W>, const W: u32>(range: Range) -> bool
     requires width { IsWidth W }
-    requires range { IsRangeOf W range }
+    requires range { IsRange W range }
     ensures { (option : Text) → result ≡ has_words (range_words F.text_of W option range) }
 {
     length_of::<W>(range).is_none()
@@ -95,8 +97,8 @@ fn has_range<F: Family<W>, const W: u32>(range: Range) -> bool
 // Whether one of the ranges is no prefix.
 fn has_ranges<F: Family<W>, const W: u32>(source: Range, destination: Range) -> bool
     requires width { IsWidth W }
-    requires source { IsRangeOf W source }
-    requires destination { IsRangeOf W destination }
+    requires source { IsRange W source }
+    requires destination { IsRange W destination }
     ensures { result ≡ has_words (both_words F.text_of W source destination) }
 {
     if has_range::<F, W>(source) {
@@ -112,8 +114,8 @@ fn append_both<F: Family<W>, const W: u32>(
     out: &mut Vec<u8>,
 ) -> Result<(), AllocError>
     requires width { IsWidth W }
-    requires source { IsRangeOf W source }
-    requires destination { IsRangeOf W destination }
+    requires source { IsRange W source }
+    requires destination { IsRange W destination }
     ensures { OnOk result (out.new.items ≡ out.old.items ++ spaced (both_words F.text_of W source destination)) }
 {
     append_range::<F, W>(b"--src-range", source, out)?;
@@ -127,8 +129,8 @@ pub(crate) fn append_ranges<F: Family<W>, const W: u32>(
     out: &mut Vec<u8>,
 ) -> Result<(), AllocError>
     requires width { IsWidth W }
-    requires source { IsRangeOf W source }
-    requires destination { IsRangeOf W destination }
+    requires source { IsRange W source }
+    requires destination { IsRange W destination }
     ensures { OnOk result (out.new.items ≡ out.old.items ++ spaced (iprange_words F.text_of W source destination)) }
 {
     if !has_ranges::<F, W>(source, destination) {

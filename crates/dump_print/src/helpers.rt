@@ -10,10 +10,10 @@ ghost use Rattle.dump_print.specs.Views.{helped_of};
 use crate::lines::{append_end, append_start};
 use crate::protocols::{Protocols, append_protocol, line_protocols};
 use crate::sets::{append_pattern_option, is_plain};
-use crate::writer::append_number;
 use box_norm::{Cube, SimpleRule};
 use interval_set::{Range, Set};
 use name_set::{NameSet, Pattern};
+use primitives::append_number;
 use std::alloc::{AllocError, Global};
 
 /// A rule, with the number of its helper chain where it needs one.

@@ -13,7 +13,6 @@ mod ports;
 mod printing;
 mod protocols;
 mod sets;
-mod words;
 mod writer;
 
 pub use fault::PrintFault;
@@ -22,7 +21,3 @@ pub use laws::{flags_are_kept, ports_are_kept, words_are_kept};
 pub use names::pattern_text;
 pub use printing::{Printed, print};
 pub use protocols::Protocols;
-pub use words::flags_text;
-
-#[cfg(test)]
-mod tests;

@@ -1,14 +1,14 @@
 //! Writes the rule lines of a cube.
 ghost use Rattle.std.specs.Prelude.{◌≡◌, ◌++◌, ◌∷◌, [], OnOk, codes, map};
 ghost use Rattle.interval_set.specs.Numbers.{IsSet, IsWidth};
+ghost use Rattle.primitives.specs.Ranges.{IsRange};
+ghost use Rattle.primitives.specs.Tables.{name_list, state_names};
+ghost use Rattle.primitives.specs.Words.{flags_text};
 ghost use Rattle.dump_grammar.specs.Lines.{Text, bare};
-ghost use Rattle.dump_print.specs.Addresses.{IsRangeOf};
 ghost use Rattle.dump_print.specs.CubeLines.{base_option_words, choices_of, module_option_words, part_words};
 ghost use Rattle.dump_print.specs.Parts.{between, choices_in, flags_words, has_words, module_words, option_words, own_module_words, own_words, rule_words, single_words, state_words, with_sports};
-ghost use Rattle.dump_print.specs.Flags.{flags_text};
 ghost use Rattle.dump_print.specs.Ports.{ports_of};
 ghost use Rattle.dump_print.specs.Spelling.{line_text, lines_text, spaced};
-ghost use Rattle.dump_print.specs.States.{states_text};
 ghost use Rattle.dump_print.specs.Views.{IsFrame, axes_in, choice_of, frame_words};
 
 use crate::addresses::{append_net, append_ranges};
@@ -16,11 +16,11 @@ use crate::flags::{FlagCube, flag_cubes};
 use crate::ports::{LinePorts, append_listed, append_single, line_ports};
 use crate::protocols::{Protocols, append_protocols, line_protocols};
 use crate::sets::append_names;
-use crate::words::{append_flags, append_states};
 use crate::writer::{append_word, append_words};
 use addr_text::Family;
 use box_norm::Cube;
 use interval_set::Range;
+use primitives::{append_flags, append_states};
 use std::alloc::{AllocError, Global};
 
 /// What one line says where the other lines of the cube may say something else.
@@ -156,7 +156,7 @@ fn append_own_module(protocols: Protocols, line: Line, out: &mut Vec<u8>) -> Res
 // Appends the states as an option of conntrack.
 fn append_state_option(states: u8, out: &mut Vec<u8>) -> Result<(), AllocError>
     ensures { OnOk result (out.new.items ≡ out.old.items
-        ++ spaced (module_words (codes "conntrack") (option_words (codes "--ctstate") (bare (states_text states))))) }
+        ++ spaced (module_words (codes "conntrack") (option_words (codes "--ctstate") (bare (name_list state_names states))))) }
 {
     append_words(b"-m", b"conntrack", out)?;
     append_word(b"--ctstate", out)?;
@@ -183,8 +183,8 @@ fn append_base_options<F: Family<W>, const W: u32>(
 ) -> Result<(), AllocError>
     requires width { IsWidth W }
     requires frame { IsFrame frame.now }
-    requires source { IsRangeOf W line.source }
-    requires destination { IsRangeOf W line.destination }
+    requires source { IsRange W line.source }
+    requires destination { IsRange W line.destination }
     ensures { OnOk result (out.new.items ≡ out.old.items ++ spaced (base_option_words F.text_of W frame.now.cube.now (choice_of line.entry))) }
 {
     append_net::<F, W>(b"-s", line.source, out)?;
@@ -202,8 +202,8 @@ fn append_module_options<F: Family<W>, const W: u32>(
 ) -> Result<(), AllocError>
     requires width { IsWidth W }
     requires frame { IsFrame frame.now }
-    requires source { IsRangeOf W line.source }
-    requires destination { IsRangeOf W line.destination }
+    requires source { IsRange W line.source }
+    requires destination { IsRange W line.destination }
     ensures { OnOk result (out.new.items ≡ out.old.items ++ spaced (module_option_words F.text_of W frame.now.cube.now (choice_of line.entry))) }
 {
     append_ranges::<F, W>(line.source, line.destination, out)?;
@@ -221,8 +221,8 @@ fn append_line<F: Family<W>, const W: u32>(
 ) -> Result<(), AllocError>
     requires width { IsWidth W }
     requires frame { IsFrame frame.now }
-    requires source { IsRangeOf W line.source }
-    requires destination { IsRangeOf W line.destination }
+    requires source { IsRange W line.source }
+    requires destination { IsRange W line.destination }
     ensures { OnOk result (out.new.items ≡ out.old.items ++ line_text (frame_words F.text_of W frame.now (choice_of line.entry))) }
 {
     append_start(frame.chain, out)?;
@@ -241,8 +241,8 @@ fn append_between<F: Family<W>, const W: u32>(
 ) -> Result<(), AllocError>
     requires width { IsWidth W }
     requires frame { IsFrame frame.now }
-    requires source { IsRangeOf W source }
-    requires destination { IsRangeOf W destination }
+    requires source { IsRange W source }
+    requires destination { IsRange W destination }
     ensures { OnOk result (out.new.items ≡ out.old.items
         ++ lines_text (map (frame_words F.text_of W frame.now) (with_sports (between source destination) (axes_in axes.now)))) }
 {

@@ -1,25 +1,17 @@
 ghost use Rattle.std.specs.Prelude.{◌≡◌, ◌++◌, ◌∷◌, [], ◌&&◌, OnOk, OnErr, length, take, not, if◌then◌else◌};
 ghost use Rattle.std.specs.List.{list_all};
-ghost use Rattle.dump_print.specs.Names.{begins_plainly, is_bare, is_plain_byte, pattern_spelled};
+ghost use Rattle.primitives.specs.Bytes.{is_plain_byte};
+ghost use Rattle.dump_print.specs.Names.{begins_plainly, is_bare, pattern_spelled};
 ghost use Rattle.dump_print.specs.Spelling.{escaped};
 
 use name_set::Pattern;
+use primitives::is_plain_byte;
 use std::alloc::AllocError;
-
-// Whether a byte is a letter, a digit, or one of `._+:@/-`.
-fn is_plain(byte: u8) -> bool
-    ensures { result ≡ is_plain_byte byte }
-{
-    matches!(
-        byte,
-        b'a'..=b'z' | b'A'..=b'Z' | b'0'..=b'9' | b'.' | b'_' | b'+' | b':' | b'@' | b'/' | b'-'
-    )
-}
 
 fn are_plain(bytes: &[u8]) -> bool
     ensures { result ≡ list_all is_plain_byte bytes.now }
 {
-    bytes.iter().all(|byte| is_plain(*byte))
+    bytes.iter().all(|byte| is_plain_byte(*byte))
 }
 
 // Whether there is a first byte that is no `-`.

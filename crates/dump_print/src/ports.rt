@@ -4,8 +4,9 @@ ghost use Rattle.dump_print.specs.Ports.{Ports, chunks, has_port_module, port_ch
 ghost use Rattle.dump_print.specs.Spelling.{spaced};
 
 use crate::protocols::Protocols;
-use crate::writer::{append_number, append_word, append_words};
+use crate::writer::{append_word, append_words};
 use interval_set::{Range, Set};
+use primitives::append_number;
 use std::alloc::{AllocError, Global};
 
 /// What a line says of its source ports, or of its destination ports.

@@ -1,6 +1,7 @@
 ghost use Rattle.std.specs.Prelude.{◌≡◌, ◌≤◌, ◌<◌, ◌++◌, IfOk, IsErrOf, OnOk, codes, map};
 ghost use Rattle.std.specs.List.{flat_map};
 ghost use Rattle.interval_set.specs.Numbers.{IsWidth};
+ghost use Rattle.limits.specs.declared.TheConstants.{MOST_LINES};
 ghost use Rattle.dump_grammar.specs.ChainLines.{policy_text};
 ghost use Rattle.dump_print.specs.Printed.{all_lines, chain_words, count_lines, declared_helper, lines_of_helper, lines_of_rule, printed};
 ghost use Rattle.dump_print.specs.Spelling.{line_text, lines_text};
@@ -15,11 +16,9 @@ use crate::writer::append_words;
 use addr_text::Family;
 use box_norm::SimpleRule;
 use fw_rule::Verdict;
+use limits::MOST_LINES;
 use match_expr::Bytes;
 use std::alloc::{AllocError, Global};
-
-// The most rule lines that a text has.
-const MAX_LINES: u64 = 262_144;
 
 /// A filter as text.
 #[derive(Drop)]
@@ -175,12 +174,12 @@ pub fn print<F: Family<W>, const W: u32>(
     requires { IsWidth W }
     ensures text { IfOk result (λ p. p.text ≡ printed F.text_of W chain.now policy rules.now) }
     ensures count { IfOk result (λ p. p.lines ≡ count_lines F.text_of W chain.now rules.now) }
-    ensures few { IfOk result (λ p. p.lines ≤ 262144) }
-    ensures many { IsErrOf result Lines → 262144 < count_lines F.text_of W chain.now rules.now }
+    ensures few { IfOk result (λ p. p.lines ≤ MOST_LINES) }
+    ensures many { IsErrOf result Lines → MOST_LINES < count_lines F.text_of W chain.now rules.now }
 {
     let helped = number_helpers(alloc, rules)?;
     let lines = count_rules(alloc, helped.as_slice())?;
-    if lines > MAX_LINES {
+    if lines > MOST_LINES {
         return Err(PrintFault::Lines);
     }
     let mut text = Vec::new(alloc);

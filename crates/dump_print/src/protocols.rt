@@ -4,9 +4,9 @@ ghost use Rattle.dump_print.specs.Protocols.{protocol_text, protocols_of, protoc
 ghost use Rattle.dump_print.specs.Parts.{option_words, protocol_words};
 ghost use Rattle.dump_print.specs.Spelling.{spaced};
 
-use crate::words::{PROTOCOLS, append_named};
 use crate::writer::append_word;
 use interval_set::Set;
+use primitives::append_proto;
 use std::alloc::{AllocError, Global};
 
 /// What one line can say of a set of protocols.
@@ -54,7 +54,7 @@ pub(crate) fn append_protocol(number: u8, out: &mut Vec<u8>) -> Result<(), Alloc
 {
     append_word(b"-p", out)?;
     out.push(b' ')?;
-    append_named(&PROTOCOLS, number, out)
+    append_proto(number, out)
 }
 
 /// Appends what a line says of the protocols.

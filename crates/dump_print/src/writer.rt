@@ -1,7 +1,6 @@
-//! Appends words and numbers to a line.
-ghost use Rattle.std.specs.Prelude.{◌≡◌, ◌++◌, [], ◌∷◌, OnOk, decimal, codes};
+//! Appends words to a line.
+ghost use Rattle.std.specs.Prelude.{◌≡◌, ◌++◌, [], ◌∷◌, OnOk};
 ghost use Rattle.dump_grammar.specs.Lines.{bare};
-ghost use Rattle.dump_print.specs.Parts.{option_words};
 ghost use Rattle.dump_print.specs.Names.{name_word};
 ghost use Rattle.dump_print.specs.Spelling.{spaced};
 
@@ -31,15 +30,4 @@ pub(crate) fn append_name(pattern: &Pattern, out: &mut Vec<u8>) -> Result<(), Al
 {
     out.push(b' ')?;
     append_pattern(pattern, out)
-}
-
-/// Appends a number in decimal digits.
-pub(crate) fn append_number(n: u128, out: &mut Vec<u8>) -> Result<(), AllocError>
-    ensures { OnOk result (out.new.items ≡ out.old.items ++ decimal n) }
-{
-    if n >= 10 {
-        append_number(n / 10, out)?;
-    }
-    out.push(b'0' + (n % 10) as u8)?;
-    Ok(())
 }

@@ -9,8 +9,9 @@ use Rattle.dump_token.specs.Words.{is_blank, AreBlanks, BeginsNoBlank, Spells, A
 use Rattle.dump_token.proofs.Once.{BeginsFull, spelled_full}
 use Rattle.dump_grammar.specs.Lines.{Text, is_passed_over}
 use Rattle.dump_grammar.specs.Tables.{IsCommit}
-use Rattle.dump_read.specs.Parts.{FollowsBlanks}
-use Rattle.dump_read.proofs.Basics.{clash, tail_same}
+use Rattle.dump_read.specs.inner.Parts.{FollowsBlanks}
+use Rattle.basics.proofs.Lists.{tail_same}
+use Rattle.basics.proofs.Truths.{clash}
 use Rattle.dump_read.proofs.NameLemmas.{same_bytes, bytes_same}
 
 no_bytes : BeginsFull [] → ⊥

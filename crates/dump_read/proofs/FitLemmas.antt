@@ -11,7 +11,7 @@ use Rattle.dump_grammar.specs.ChainLines.{IsChainLine}
 use Rattle.dump_grammar.specs.declared.rule.RuleLine.{RuleLine}
 use Rattle.dump_grammar.specs.RuleLines.{IsRuleLine}
 use Rattle.dump_grammar.specs.Tables.{IsCommit, WellFormed, Fit, IsBadLine}
-use Rattle.dump_read.specs.Positions.{Filter, Position, Step, Leads}
+use Rattle.dump_read.specs.inner.Positions.{Filter, Position, Step, Leads}
 use Rattle.dump_read.proofs.LineLemmas.{numbered_append}
 use Rattle.dump_read.proofs.StepLemmas.{leads_append, leads_part, leads_once}
 use Rattle.dump_read.proofs.TableLemmas.{leads_of, tables_of}

@@ -1,4 +1,3 @@
-pub mod Basics
 pub mod LineLemmas
 pub mod NameLemmas
 pub mod StepLemmas
@@ -10,15 +9,3 @@ pub mod ByteLemmas
 pub mod StateLemmas
 pub mod TakeLemmas
 pub mod ReadLemmas
-pub mod DecideWords
-pub mod DecideChains
-pub mod DecideSteps
-pub mod SomeKind
-pub mod DecideAddressTexts
-pub mod DecideArguments
-pub mod DecideOptions
-pub mod DecideLiterals
-pub mod DecideHeads
-pub mod DecideGroups
-pub mod DecideTargets
-pub mod DecideRules

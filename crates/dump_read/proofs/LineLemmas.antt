@@ -1,7 +1,7 @@
 -- A text is divided into lines in one way; lines keep their numbers where others follow.
 use Rattle.std.proofs.Common.{ℕ, suc, ◌+◌, ◌≡◌, ◌≢◌, ◌⊎◌, inl, inr, List, [], ◌∷◌, ◌++◌, length, refl, sym, ap, subst, ◌∙◌, arith, add-zero}
 use Rattle.dump_grammar.specs.Lines.{Text, IsLine, AreLines, numbered_from}
-use Rattle.dump_read.proofs.Basics.{head_same, tail_same, no_cons}
+use Rattle.basics.proofs.Lists.{head_same, tail_same, no_cons}
 
 no_feed : (x : List ℕ) (r : List ℕ) → IsLine (x ++ 10 ∷ r) → ⊥
 no_feed [] r h = h.0 refl

@@ -4,6 +4,7 @@ use Rattle.std.specs.Prelude.{filter, All}
 use Rattle.std.specs.List.{AllByRecursion}
 use Rattle.std.proofs.lemmas.List.{append-nil}
 use Rattle.std.proofs.lemmas.List.Elements.{All-from_recursion, All-weaker}
+use Rattle.limits.specs.declared.TheConstants.{MOST_BYTES}
 use Rattle.primitives.specs.declared.prim.Prim_.{Prim_}
 use Rattle.fw_rule.specs.declared.rule.Rule.{Rule}
 use Rattle.fw_rule.specs.declared.rule.Chain.{Chain}
@@ -20,11 +21,11 @@ use Rattle.dump_grammar.specs.Reads.{rule_of, is_in, dump_of, HasFilter, IsDump,
 use Rattle.dump_read.specs.declared.fault.ReadFault.{ReadFault}
 use Rattle.dump_read.specs.declared.state.Part.{Part}
 use Rattle.dump_read.specs.declared.state.Reading.{Reading}
-use Rattle.dump_read.specs.Parts.{BeginsWithLine}
-use Rattle.dump_read.specs.Positions.{Filter, Position, Opens, Adds, Moves, Step, Leads}
-use Rattle.dump_read.specs.States.{AreWritable, IsFirstUndeclared, Shows, EndsWith, EndsAs}
+use Rattle.dump_read.specs.inner.Parts.{BeginsWithLine}
+use Rattle.dump_read.specs.inner.Positions.{Filter, Position, Opens, Adds, Moves, Step, Leads}
+use Rattle.dump_read.specs.inner.States.{AreWritable, IsFirstUndeclared, Shows, EndsWith, EndsAs}
 use Rattle.dump_read.specs.Answers.{IsFaultOf, IsPrintableDump, RuleHasAtMost, ChainHasAtMost, HasAtMost}
-use Rattle.dump_read.proofs.Basics.{no_cons}
+use Rattle.basics.proofs.Lists.{no_cons}
 use Rattle.dump_read.proofs.LineLemmas.{lines_of_text}
 use Rattle.dump_read.proofs.FitLemmas.{start, join, bad_of, bad_at_end}
 use Rattle.dump_read.proofs.ReadingLemmas.{has_filter_of, no_filter_of}
@@ -146,7 +147,7 @@ module _ (W : ℕ) (Reads : Text → ℕ → Type 0) where
 
   -- the most that a text gives
   abbrev Small : Rule (Prim_ W) → Type 0
-  Small = RuleHasAtMost 16777216
+  Small = RuleHasAtMost MOST_BYTES
 
   small_rules : (f : Placed W → Bool) (rs : List (Placed W)) → AreWritable rs → AllByRecursion Small (map rule_of (filter f rs)) × (length (map rule_of (filter f rs)) ≤ length rs)
   small_rules f [] h = (tt, omega arith)
@@ -157,25 +158,31 @@ module _ (W : ℕ) (Reads : Text → ℕ → Type 0) where
       by true m = ((h.0.0, m.0), omega (arith, m.1))
       by false m = (m.0, omega (arith, m.1))
 
-  small_chains : (cs : List Declared) (rs : List (Placed W)) → AreWritable rs → length rs ≤ 16777216 →
-      AllByRecursion (ChainHasAtMost 16777216) ((dump_of cs rs).chains) × (length ((dump_of cs rs).chains) ≡ length cs)
+  small_chains : (cs : List Declared) (rs : List (Placed W)) → AreWritable rs → length rs ≤ MOST_BYTES →
+      AllByRecursion (ChainHasAtMost MOST_BYTES) ((dump_of cs rs).chains)
+      × (length ((dump_of cs rs).chains) ≡ length cs)
   small_chains [] rs h few = (tt, refl)
   small_chains (c ∷ cs) rs h few =
       let m = small_rules (is_in c.name) rs h in
       let more = small_chains cs rs h few in
       (((omega (arith, m.1, few), All-from_recursion Small (map rule_of (filter (is_in c.name) rs)) m.0), more.0), ap (λ n. suc n) more.1)
 
-  few_of : (cs : List Declared) (rs : List (Placed W)) → AreWritable rs → length cs ≤ 16777216 → length rs ≤ 16777216 → HasAtMost 16777216 (dump_of cs rs)
+  few_of : (cs : List Declared) (rs : List (Placed W)) → AreWritable rs → length cs ≤ MOST_BYTES
+      → length rs ≤ MOST_BYTES → HasAtMost MOST_BYTES (dump_of cs rs)
   few_of cs rs h few less =
       let m = small_chains cs rs h less in
-      (omega (arith, m.1, few), All-from_recursion (ChainHasAtMost 16777216) ((dump_of cs rs).chains) m.0)
+      (omega (arith, m.1, few), All-from_recursion (ChainHasAtMost MOST_BYTES) ((dump_of cs rs).chains) m.0)
 
   -- what is so small has room
-  chain_room : (here : Chain (Prim_ W)) → ChainHasAtMost 16777216 here → ChainHasRoom here
+  chain_room : (here : Chain (Prim_ W)) → ChainHasAtMost MOST_BYTES here → ChainHasRoom here
   chain_room here few = (omega (arith, few.0), All-weaker Small RuleHasRoom (λ rule small. omega (arith, small)) here.rules few.1)
 
-  pub small_room : (dump : Dump (Prim_ W)) → HasAtMost 16777216 dump → HasRoom dump
-  small_room dump few = (omega (arith, few.0), All-weaker (ChainHasAtMost 16777216) ChainHasRoom chain_room dump.chains few.1)
+  pub small_room : (dump : Dump (Prim_ W)) → HasAtMost MOST_BYTES dump → HasRoom dump
+  small_room dump few = (
+    omega (arith, few.0),
+    All-weaker
+        (ChainHasAtMost MOST_BYTES) ChainHasRoom chain_room dump.chains few.1,
+  )
 
   printable_rules : (f : Placed W → Bool) (rs : List (Placed W)) → AreWritable rs → AllByRecursion (λ (rule : Rule (Prim_ W)). AllByRecursion IsPrintableLiteral rule.lits) (map rule_of (filter f rs))
   printable_rules f [] h = tt
@@ -218,14 +225,16 @@ module _ (W : ℕ) (Reads : Text → ℕ → Type 0) where
         dump_is = a.dump_is;
       }
 
-  pub read_small : (state : Reading W) (text rest : Text) (lines : ℕ) (dump : Dump (Prim_ W)) → IsRead state text rest lines → length text ≤ 16777216 →
-      ((p : Position W) → Shows state p → EndsAs p dump) → HasAtMost 16777216 dump
+  pub read_small : (state : Reading W) (text rest : Text) (lines : ℕ) (dump : Dump (Prim_ W))
+      → IsRead state text rest lines → length text ≤ MOST_BYTES →
+      ((p : Position W) → Shows state p → EndsAs p dump) → HasAtMost MOST_BYTES dump
   read_small state text rest lines dump r small answers =
       let a = answers r.position r.shows in
       let b = leads_size (start W Reads) (numbered_from 1 r.done) r.position r.leads in
       let d = r.fits in
       let few : length a.chains + length a.rules ≤ length text = omega (arith, b, d, length_numbered 1 r.done, ap size a.there) in
-      subst (HasAtMost 16777216) (sym a.dump_is) (few_of a.chains a.rules a.writable (omega (arith, few, small)) (omega (arith, few, small)))
+      subst (HasAtMost MOST_BYTES) (sym a.dump_is)
+      (few_of a.chains a.rules a.writable (omega (arith, few, small)) (omega (arith, few, small)))
 
 module _ (W : ℕ) (Reads : Text → ℕ → Type 0)
     (one_chain : (words : List Word) (a b : Declared) → IsChainLine words a → IsChainLine words b → a ≡ b)

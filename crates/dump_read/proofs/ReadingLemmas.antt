@@ -10,9 +10,10 @@ use Rattle.dump_grammar.specs.declared.rule.RuleLine.{RuleLine}
 use Rattle.dump_grammar.specs.RuleLines.{IsRuleLine}
 use Rattle.dump_grammar.specs.Tables.{lines_of, IsFilterBody, Placed, WellFormed, IsBadLine}
 use Rattle.dump_grammar.specs.Reads.{dump_of, HasFilter, is_declared, IsDump, IsUndefinedLine, HasNoFilter, IsMalformed}
-use Rattle.dump_read.specs.Positions.{Filter, Position, Leads}
+use Rattle.dump_read.specs.inner.Positions.{Filter, Position, Leads}
 use Rattle.dump_read.specs.Laws.{HasOneDump, HasOneMalformedLine, HasOneUndefinedLine, ExcludeEachOther}
-use Rattle.dump_read.proofs.Basics.{clash, head_same, tail_same}
+use Rattle.basics.proofs.Lists.{head_same, tail_same}
+use Rattle.basics.proofs.Truths.{clash}
 use Rattle.dump_read.proofs.LineLemmas.{one_lines}
 use Rattle.dump_read.proofs.StepLemmas.{leads_once}
 use Rattle.dump_read.proofs.TableLemmas.{AreKept, all_kept, kept_left, kept_there, leads_of, tables_of, finds_none, finds_filter, there_found, none_left, body_leads}

@@ -14,8 +14,9 @@ use Rattle.dump_grammar.specs.Groups.{all_differ}
 use Rattle.dump_grammar.specs.Tables.{Placed, names_of}
 use Rattle.dump_grammar.specs.Reads.{rule_of, is_in}
 use Rattle.dump_read.specs.declared.state.Reading.{Reading}
-use Rattle.dump_read.specs.States.{has_any, with_rule, IsWritable, IsFirstUndeclared, Keeps}
-use Rattle.dump_read.proofs.Basics.{clash, no_cons}
+use Rattle.dump_read.specs.inner.States.{has_any, with_rule, IsWritable, IsFirstUndeclared, Keeps}
+use Rattle.basics.proofs.Lists.{no_cons}
+use Rattle.basics.proofs.Truths.{clash}
 use Rattle.dump_read.proofs.NameLemmas.{and_left, and_right, or_left, or_right, not_true, same_bytes, bytes_flip, differ_push}
 use Rattle.dump_read.proofs.TableLemmas.{names_push}
 

@@ -7,8 +7,9 @@ use Rattle.dump_grammar.specs.ChainLines.{IsChainLine, IsMaybeCounter, policy_te
 use Rattle.dump_grammar.specs.declared.rule.RuleLine.{RuleLine}
 use Rattle.dump_grammar.specs.RuleLines.{IsRuleLine}
 use Rattle.dump_grammar.specs.Tables.{Placed, names_of}
-use Rattle.dump_read.specs.Positions.{Filter, Position, Opens, Adds, Moves, Step, Leads}
-use Rattle.dump_read.proofs.Basics.{clash, head_same, tail_same}
+use Rattle.dump_read.specs.inner.Positions.{Filter, Position, Opens, Adds, Moves, Step, Leads}
+use Rattle.basics.proofs.Lists.{head_same, tail_same}
+use Rattle.basics.proofs.Truths.{clash}
 
 pub one_words : (line : Text) (v w : List Word) → HasWords line v → HasWords line w → v ≡ w
 one_words line v w p q = sym p.2 ∙ ap (map word_of) (one_list 0 p.0 q.0 line p.1 q.1) ∙ q.2

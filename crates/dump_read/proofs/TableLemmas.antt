@@ -1,5 +1,5 @@
 -- Lines that are tables lead from outside to outside, and lines that lead so are tables.
-use Rattle.std.proofs.Common.{ℕ, zero, suc, ◌<◌, ◌≡◌, ◌≢◌, inl, inr, ◌⊎◌, Bool, true, false, not, cond, None, Some, Option, List, [], ◌∷◌, ◌++◌, length, get_or, refl, sym, ap, subst, ◌∙◌, arith, codes, append_assoc}
+use Rattle.std.proofs.Common.{ℕ, zero, suc, ◌<◌, ◌≡◌, ◌≢◌, inl, inr, ◌⊎◌, Bool, true, false, not, cond, None, Some, Option, List, [], ◌∷◌, ◌++◌, length, get_or, slice_get, refl, sym, ap, subst, ◌∙◌, arith, codes, append_assoc}
 use Rattle.std.specs.Prelude.{filter, Contains}
 use Rattle.std.specs.List.{AllByRecursion, flat_map}
 use Rattle.std.proofs.lemmas.List.{append-nil}
@@ -10,8 +10,8 @@ use Rattle.dump_grammar.specs.Groups.{all_differ}
 use Rattle.dump_grammar.specs.declared.rule.RuleLine.{RuleLine}
 use Rattle.dump_grammar.specs.RuleLines.{IsRuleLine}
 use Rattle.dump_grammar.specs.Tables.{IsCommit, DumpTable, lines_of, IsFilter, Placed, names_of, AreChainLines, AreRuleLines, IsFilterBody, IsTable, AreTables}
-use Rattle.dump_read.specs.Positions.{Filter, Position, Opens, Adds, Moves, Step, Leads}
-use Rattle.dump_read.proofs.Basics.{head_same, tail_same, no_cons}
+use Rattle.dump_read.specs.inner.Positions.{Filter, Position, Opens, Adds, Moves, Step, Leads}
+use Rattle.basics.proofs.Lists.{each_at, each_placed, in_bounds, no_cons}
 use Rattle.dump_read.proofs.NameLemmas.{differ_push, differ_middle}
 use Rattle.dump_read.proofs.StepLemmas.{leads_append}
 
@@ -26,7 +26,8 @@ abbrev pub NoFilter : List DumpTable → Type 0
 NoFilter tables = AllByRecursion (λ (t : DumpTable). IsFilter t → ⊥) tables
 
 abbrev pub HasOneFilter : List DumpTable → Type 0
-HasOneFilter tables = (before after : List DumpTable) (t : DumpTable) → tables ≡ before ++ t ∷ after → IsFilter t → NoFilter (before ++ after)
+HasOneFilter tables = (i j : ℕ) (s t : DumpTable) → slice_get tables i ≡ Some s → slice_get tables j ≡ Some t
+    → IsFilter s → IsFilter t → i ≡ j
 
 pub names_push : (cs : List Declared) (c : Declared) → names_of (cs ++ c ∷ []) ≡ names_of cs ++ c.name ∷ []
 names_push [] c = refl
@@ -60,10 +61,6 @@ all_kept (l ∷ ls) = by (is_passed_over l.bytes) refl (all_kept ls)
     by : (b : Bool) → is_passed_over l.bytes ≡ b → AreKept (kept ls) → AreKept (cond (not (is_passed_over l.bytes)) (l ∷ kept ls) (kept ls))
     by true e more = subst AreKept (sym (kept_over l ls e)) more
     by false e more = subst AreKept (sym (kept_here l ls e)) (e, more)
-
-filter_among : (before : List DumpTable) (t : DumpTable) (after : List DumpTable) → NoFilter (before ++ t ∷ after) → IsFilter t → ⊥
-filter_among [] t after h is = h.0 is
-filter_among (b ∷ before) t after h is = filter_among before t after h.1 is
 
 -- the lines of one of the tables are among the lines of all
 pub kept_there : (ts : List DumpTable) (t : DumpTable) (k : ℕ) → AreKept (flat_map lines_of ts) → k < length ts → get_or ts k t ≡ t → AreKept (lines_of t)
@@ -449,26 +446,29 @@ module _ (W : ℕ) (Reads : Text → ℕ → Type 0) where
       absurd (let w : None ≡ Some (a.2.0, a.2.1) = sym d ∙ s in cc)
   finds_none (t ∷ ts) f g (m, (inr a, h)) e d = (a.0, finds_none ts m g h (a.1 ∙ e) d)
 
-  finds_one : (ts : List DumpTable) (f g : Option (Filter W)) → Finds ts f g → (before after : List DumpTable) (t : DumpTable) → ts ≡ before ++ t ∷ after → IsFilter t → NoFilter (before ++ after)
-  finds_one [] f g h before after t e is = absurd (no_cons before t after (sym e))
-  finds_one (u ∷ ts) f g h [] after t e is =
-      let first : t ≡ u = head_same t u after ts (sym e) in
-      let rest : ts ≡ after = tail_same u t ts after e in
-      subst NoFilter rest (by h.1.0 (subst IsFilter first is))
-    where
-      by : Turns u f h.0 → IsFilter u → NoFilter ts
-      by (inl a) i = (some_ends ts (a.2.0, a.2.1) g (subst (λ (z : Option (Filter W)). Finds ts z g) a.2.2.1 h.1.1)).0
-      by (inr a) i = absurd (a.0 i)
-  finds_one (u ∷ ts) f g h (b ∷ before) after t e is =
-      let first : u ≡ b = head_same u b ts (before ++ t ∷ after) e in
-      let rest : ts ≡ before ++ t ∷ after = tail_same u b ts (before ++ t ∷ after) e in
-      by h.1.0 first rest (finds_one ts h.0 g h.1.1 before after t rest is)
-    where
-      by : Turns u f h.0 → u ≡ b → ts ≡ before ++ t ∷ after → NoFilter (before ++ after) → NoFilter (b ∷ (before ++ after))
-      by (inl a) first rest more =
-          let all : NoFilter (before ++ t ∷ after) = subst NoFilter rest (some_ends ts (a.2.0, a.2.1) g (subst (λ (z : Option (Filter W)). Finds ts z g) a.2.2.1 h.1.1)).0 in
-          absurd (filter_among before t after all is)
-      by (inr a) first rest more = (subst (λ (z : DumpTable). IsFilter z → ⊥) first a.0, more)
+  no_more : (u : DumpTable) (ts : List DumpTable) (f g : Option (Filter W)) → Finds (u ∷ ts) f g → IsFilter u
+      → NoFilter ts
+  no_more u ts f g (m, (inl a, h)) is =
+      (some_ends ts (a.2.0, a.2.1) g (subst (λ (z : Option (Filter W)). Finds ts z g) a.2.2.1 h)).0
+  no_more u ts f g (m, (inr a, h)) is = absurd (a.0 is)
+
+  nothing_there : (i : ℕ) (s : DumpTable) → slice_get [] i ≡ Some s → ⊥
+  nothing_there i s e = let n : i < length {A = DumpTable} [] = in_bounds [] i s e in omega (arith, n)
+
+  -- of two places, of which one is the first, with a table filter
+  not_later : (u : DumpTable) (ts : List DumpTable) (f g : Option (Filter W)) → Finds (u ∷ ts) f g
+      → (j : ℕ) (s t : DumpTable) → Some u ≡ Some s → slice_get ts j ≡ Some t
+      → IsFilter s → IsFilter t → ⊥
+  not_later u ts f g h j s t e d a b =
+      let same : u ≡ s = cc in
+      each_at (λ (v : DumpTable). IsFilter v → ⊥) ts j t (no_more u ts f g h (subst IsFilter (sym same) a)) d b
+
+  finds_one : (ts : List DumpTable) (f g : Option (Filter W)) → Finds ts f g → HasOneFilter ts
+  finds_one [] f g h i j s t e d a b = absurd (nothing_there i s e)
+  finds_one (u ∷ ts) f g h zero zero s t e d a b = refl
+  finds_one (u ∷ ts) f g h zero (suc j) s t e d a b = absurd (not_later u ts f g h j s t e d a b)
+  finds_one (u ∷ ts) f g h (suc i) zero s t e d a b = absurd (not_later u ts f g h i t s d e b a)
+  finds_one (u ∷ ts) f g h (suc i) (suc j) s t e d a b = ap suc (finds_one ts h.0 g h.1.1 i j s t e d a b)
 
   -- a filter that was found is the one that is there
   pub finds_filter : (ts : List DumpTable) (f g : Option (Filter W)) (x : Filter W) → Finds ts f g → f ≡ None → g ≡ Some x →
@@ -498,14 +498,17 @@ module _ (W : ℕ) (Reads : Text → ℕ → Type 0) where
   -- tables of which at most one is filter find what there is
   finds_of : (ts : List DumpTable) (f : Option (Filter W)) → AllByRecursion (IsTable W Reads) ts → HasOneFilter ts → (f ≡ None) ⊎ NoFilter ts → (g : Option (Filter W)) × Finds ts f g
   finds_of [] f each one ok = (f, refl)
-  finds_of (t ∷ ts) f each one ok = by each.0.inside ok (λ m start. finds_of ts m each.1 (λ before after v e i. (one (t ∷ before) after v (ap (λ z. t ∷ z) e) i).1) start)
+  finds_of (t ∷ ts) f each one ok =
+      by each.0.inside ok (λ m start. finds_of ts m each.1
+      (λ i j s u e d a b. let n = one (suc i) (suc j) s u e d a b in omega (arith, n)) start)
     where
       by : (IsFilter t × ((chains : List Declared) × (rules : List (Placed W)) × IsFilterBody W Reads t.body chains rules) × HasWords t.close.bytes (bare (codes "COMMIT") ∷ []))
           ⊎ ((IsFilter t → ⊥) × AllByRecursion (λ (line : Numbered). IsCommit line.bytes → ⊥) t.body × IsCommit t.close.bytes) →
           (f ≡ None) ⊎ NoFilter (t ∷ ts) → ((m : Option (Filter W)) → (m ≡ None) ⊎ NoFilter ts → (g : Option (Filter W)) × Finds ts m g) → (g : Option (Filter W)) × Finds (t ∷ ts) f g
       by (inl a) (inl none) more =
           let m : Option (Filter W) = Some (a.1.0, a.1.1) in
-          let rest = more m (inr (one [] ts t refl a.0)) in
+          let rest = more m (inr (each_placed (λ (v : DumpTable). IsFilter v → ⊥) ts
+          (λ i v e is. let n = one zero (suc i) t v refl e a.0 is in omega (arith, n)))) in
           (rest.0, (m, (inl (a.0, none, (a.1.0, a.1.1, (a.1.2, refl))), rest.1)))
       by (inl a) (inr no_one) more = absurd (no_one.0 a.0)
       by (inr a) (inl none) more = let rest = more f (inl none) in (rest.0, (f, (inr (a.0, refl), rest.1)))

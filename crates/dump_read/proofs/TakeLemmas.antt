@@ -10,10 +10,11 @@ use Rattle.dump_grammar.specs.Tables.{IsCommit, Placed, names_of}
 use Rattle.dump_read.specs.declared.fault.LineFault.{LineFault}
 use Rattle.dump_read.specs.declared.state.Part.{Part}
 use Rattle.dump_read.specs.declared.state.Reading.{Reading}
-use Rattle.dump_read.specs.Parts.{OnMalformed}
-use Rattle.dump_read.specs.Positions.{Filter, Position, Adds, Moves, Step}
-use Rattle.dump_read.specs.States.{Keeps, Knows, Shows}
-use Rattle.dump_read.proofs.Basics.{clash, head_same, tail_same}
+use Rattle.dump_read.specs.inner.Parts.{OnMalformed}
+use Rattle.dump_read.specs.inner.Positions.{Filter, Position, Adds, Moves, Step}
+use Rattle.dump_read.specs.inner.States.{Keeps, Knows, Shows}
+use Rattle.basics.proofs.Lists.{head_same, tail_same}
+use Rattle.basics.proofs.Truths.{clash}
 use Rattle.dump_read.proofs.StepLemmas.{one_words, close_chain, chain_rule}
 
 -- what a malformed line says says less

@@ -19,7 +19,8 @@ IsFaultOf W Reads text ReadFault.Memory = Unit {0}
 
 -- each pattern of interface names in the dump can be printed
 abbrev pub IsPrintableDump : {W : ℕ} → Dump (Prim_ W) → Type 0
-IsPrintableDump {W} dump = All (λ (here : Chain (Prim_ W)). All (λ (rule : Rule (Prim_ W)). AllByRecursion IsPrintableLiteral rule.lits) here.rules) dump.chains
+IsPrintableDump {W} dump = All (λ (here : Chain (Prim_ W)).
+    All (λ (rule : Rule (Prim_ W)). AllByRecursion IsPrintableLiteral rule.lits) here.rules) dump.chains
 
 module _ {W : ℕ} (most : ℕ) where
   -- the rule has at most so many literals

@@ -1,5 +1,5 @@
 -- Laws of the grammar of dumps: what a text can be, it is in one way.
-use Rattle.std.specs.Prelude.{ℕ, ◌≡◌, ◌⊎◌, List, ◌++◌}
+use Rattle.std.specs.Prelude.{ℕ, ◌≡◌, List, ◌++◌}
 use Rattle.primitives.specs.declared.prim.Prim_.{Prim_}
 use Rattle.fw_rule.specs.declared.rule.Dump.{Dump}
 use Rattle.dump_grammar.specs.Lines.{Text}
@@ -27,11 +27,6 @@ module _ (W : ℕ) (Reads : Text → ℕ → Type 0) where
     pub malformed_no_filter : (n : ℕ) → IsMalformed W Reads text n → HasNoFilter W Reads text → ⊥
     pub malformed_undefined : (m n : ℕ) → IsMalformed W Reads text m → IsUndefinedLine W Reads text n → ⊥
     pub no_filter_undefined : (n : ℕ) → HasNoFilter W Reads text → IsUndefinedLine W Reads text n → ⊥
-
-  -- a text is one of these
-  abbrev pub IsOneOfThem : Text → Type 0
-  IsOneOfThem text = ((dump : Dump (Prim_ W)) × IsDump W Reads text dump) ⊎ ((n : ℕ) × IsMalformed W Reads text n)
-      ⊎ HasNoFilter W Reads text ⊎ ((n : ℕ) × IsUndefinedLine W Reads text n)
 
   -- lines that fit still do where lines at their end are left out
   abbrev pub FrontsFit : Type 0

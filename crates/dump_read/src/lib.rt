@@ -13,8 +13,5 @@ mod state;
 mod steps;
 
 pub use fault::ReadFault;
-pub use laws::{Decided, fronts_fit, one_answer, one_kind, some_kind};
+pub use laws::{fronts_fit, one_answer, one_kind};
 pub use reader::read_dump;
-
-#[cfg(test)]
-mod tests;

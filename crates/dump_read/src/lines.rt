@@ -1,8 +1,9 @@
 ghost use Rattle.std.specs.Prelude.{◌≡◌, ◌↔◌, ◌≤◌, ◌<◌, ◌∷◌, [], ℕ, List as Seq, IfErr, IfNone, IfOk, IfSome, IsTrue, length};
+ghost use Rattle.limits.specs.declared.TheConstants.{MOST_BYTES};
 ghost use Rattle.dump_token.specs.Words.{is_blank, AreBlanks};
 ghost use Rattle.dump_grammar.specs.Lines.{HasWords, Word, is_passed_over, words_of};
 ghost use Rattle.dump_grammar.specs.Tables.{IsCommit};
-ghost use Rattle.dump_read.specs.Parts.{BeginsWithLine, FollowsBlanks, OnMalformed};
+ghost use Rattle.dump_read.specs.inner.Parts.{BeginsWithLine, FollowsBlanks, OnMalformed};
 
 use crate::fault::LineFault;
 use dump_token::{Token, TokenFault, tokens};
@@ -70,9 +71,9 @@ pub(crate) fn is_commit(line: &[u8]) -> bool
     }
 }
 
-/// The words of a line of at most 16,777,216 bytes.
+/// The words of a line of at most `limits::MOST_BYTES` bytes.
 pub(crate) fn line_words(alloc: Global, line: &[u8]) -> Result<List<Token>, LineFault>
-    requires { length line.now ≤ 16777216 }
+    requires { length line.now ≤ MOST_BYTES }
     ensures words { IfOk result (λ tokens. HasWords line.now (words_of tokens)) }
     ensures few { IfOk result (λ tokens. length tokens ≤ length line.now) }
     ensures none { IfErr result (OnMalformed ((words : Seq Word) → HasWords line.now words → ⊥)) }

@@ -1,10 +1,11 @@
 ghost use Rattle.std.specs.Prelude.{◌≡◌, ◌≤◌, ◌<◌, ℕ, IfErr, IfOk, length};
+ghost use Rattle.limits.specs.declared.TheConstants.{MOST_BYTES};
 ghost use Rattle.fw_rule.specs.Calls.{HasRoom};
 ghost use Rattle.interval_set.specs.Numbers.{IsWidth};
 ghost use Rattle.dump_grammar.specs.Reads.{IsDump};
 ghost use Rattle.dump_read.specs.Answers.{HasAtMost, IsFaultOf, IsPrintableDump};
-ghost use Rattle.dump_read.specs.Positions.{Position};
-ghost use Rattle.dump_read.specs.States.{EndsAs, EndsWith, Shows};
+ghost use Rattle.dump_read.specs.inner.Positions.{Position};
+ghost use Rattle.dump_read.specs.inner.States.{EndsAs, EndsWith, Shows};
 
 use crate::fault::{LineFault, ReadFault};
 use crate::lines::first_line;
@@ -18,7 +19,7 @@ use std::alloc::Global;
 
 // What the text is, of which so many lines were taken.
 fn finish<const W: u32>(state: Reading<W>, lines: u32) -> Result<Dump<Prim_<W>>, ReadFault>
-    requires { lines ≤ 16777216 }
+    requires { lines ≤ MOST_BYTES }
     ensures ok { IfOk result (λ dump. (p : Position W) → Shows state.entry p → EndsAs p dump) }
     ensures fault { IfErr result (λ fault. (p : Position W) → Shows state.entry p → EndsWith p lines fault) }
 {
@@ -37,7 +38,7 @@ fn finish<const W: u32>(state: Reading<W>, lines: u32) -> Result<Dump<Prim_<W>>,
     })
 }
 
-/// The dump that a text of at most 16,777,216 bytes is. It has at most so many chains, each chain so many rules, and each
+/// The dump that a text of at most `limits::MOST_BYTES` bytes is. It has at most so many chains, each chain so many rules, and each
 /// rule so many literals.
 ///
 /// # Errors
@@ -50,10 +51,10 @@ pub fn read_dump<F: Family<W>, const W: u32>(
     text: &[u8],
 ) -> Result<Dump<Prim_<W>>, ReadFault>
     requires width { IsWidth W }
-    requires size { length text.now ≤ 16777216 }
+    requires size { length text.now ≤ MOST_BYTES }
     ensures ok { IfOk result (IsDump W F.Reads text.now) }
     ensures fault { IfErr result (IsFaultOf W F.Reads text.now) }
-    ensures few { IfOk result (HasAtMost 16777216) }
+    ensures few { IfOk result (HasAtMost MOST_BYTES) }
     ensures room { IfOk result HasRoom }
     ensures printable { IfOk result IsPrintableDump }
 {

@@ -1,9 +1,10 @@
 ghost use Rattle.std.specs.Prelude.{◌≡◌, ◌≤◌, ◌<◌, ◌+◌, ◌^◌, ◌∷◌, ◌++◌, [], ℕ, false, List as Seq, IfErr, IfOk, OnOk, length};
+ghost use Rattle.limits.specs.declared.TheConstants.{MOST_BYTES};
 ghost use Rattle.dump_grammar.specs.ChainLines.{is_among};
 ghost use Rattle.dump_grammar.specs.Tables.{Placed, names_of};
 ghost use Rattle.dump_grammar.specs.declared.chains.Declared.{Declared as AChain};
-ghost use Rattle.dump_read.specs.Parts.{OnMalformed};
-ghost use Rattle.dump_read.specs.States.{IsWritable, Keeps, with_rule};
+ghost use Rattle.dump_read.specs.inner.Parts.{OnMalformed};
+ghost use Rattle.dump_read.specs.inner.States.{IsWritable, Keeps, with_rule};
 
 use crate::fault::LineFault;
 use crate::state::Reading;
@@ -30,7 +31,7 @@ pub(crate) fn add_chain<const W: u32>(
     state: &mut Reading<W>,
     chain: Declared,
 ) -> Result<(), LineFault>
-    requires { length state.old.names < 16777216 }
+    requires { length state.old.names < MOST_BYTES }
     ensures added { OnOk result ((chains : Seq AChain) (rules : Seq (Placed W)) → Keeps state.old chains rules →
         (rules ≡ []) × (is_among (names_of chains) chain.name ≡ false) × Keeps state.new (chains ++ chain ∷ []) []) }
     ensures stuck { IfErr result (OnMalformed ((chains : Seq AChain) (rules : Seq (Placed W)) → Keeps state.old chains rules →

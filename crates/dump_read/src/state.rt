@@ -33,8 +33,8 @@ pub(crate) struct Reading<const W: u32> {
 
 impl<const W: u32> Reading<W> {
     ghost use Rattle.std.specs.Prelude.{None};
-    ghost use Rattle.dump_read.specs.Positions.{Position};
-    ghost use Rattle.dump_read.specs.States.{Shows};
+    ghost use Rattle.dump_read.specs.inner.Positions.{Position};
+    ghost use Rattle.dump_read.specs.inner.States.{Shows};
 
     /// The state before the first line.
     pub(crate) fn new(alloc: Global) -> Reading<W>

@@ -1,11 +1,12 @@
 ghost use Rattle.std.specs.Prelude.{◌≡◌, ◌≤◌, ◌<◌, ℕ, Option as Maybe, List as Seq, IfErr, OnOk, length};
+ghost use Rattle.limits.specs.declared.TheConstants.{MOST_BYTES};
 ghost use Rattle.interval_set.specs.Numbers.{IsWidth};
 ghost use Rattle.dump_grammar.specs.Lines.{IsLine};
 ghost use Rattle.dump_grammar.specs.Tables.{Placed};
 ghost use Rattle.dump_grammar.specs.declared.chains.Declared.{Declared as AChain};
-ghost use Rattle.dump_read.specs.Parts.{OnMalformed};
-ghost use Rattle.dump_read.specs.Positions.{Filter, Moves, Position, Step};
-ghost use Rattle.dump_read.specs.States.{Keeps, Shows};
+ghost use Rattle.dump_read.specs.inner.Parts.{OnMalformed};
+ghost use Rattle.dump_read.specs.inner.Positions.{Filter, Moves, Position, Step};
+ghost use Rattle.dump_read.specs.inner.States.{Keeps, Shows};
 
 use crate::fault::LineFault;
 use crate::keywords::{is_close, table_name};
@@ -22,7 +23,7 @@ fn open_table<F: Family<W>, const W: u32>(
     state: &mut Reading<W>,
     line: &[u8],
 ) -> Result<(), LineFault>
-    requires { length line.now ≤ 16777216 }
+    requires { length line.now ≤ MOST_BYTES }
     ensures moved { OnOk result ((found : Maybe (Filter W)) (n : ℕ) → Shows state.old (Position.Outside found) →
         (q : Position W) × (Moves W F.Reads (Position.Outside found) (record { number = n; bytes = line.now }) q × Shows state.new q)) }
     ensures stuck { IfErr result (OnMalformed ((found : Maybe (Filter W)) (n : ℕ) (q : Position W) → Shows state.old (Position.Outside found) →
@@ -62,9 +63,9 @@ fn add_line<F: Family<W>, const W: u32>(
     number: u32,
 ) -> Result<(), LineFault>
     requires width { IsWidth W }
-    requires size { length line.now ≤ 16777216 }
+    requires size { length line.now ≤ MOST_BYTES }
     requires line { IsLine line.now }
-    requires few { length state.old.names < 16777216 }
+    requires few { length state.old.names < MOST_BYTES }
     requires stands { (chains : Seq AChain) × (rules : Seq (Placed W)) × Keeps state.old chains rules }
     ensures moved { OnOk result ((chains : Seq AChain) (rules : Seq (Placed W)) → Shows state.old (Position.Inside chains rules) →
         (q : Position W) × (Moves W F.Reads (Position.Inside chains rules) (record { number = number; bytes = line.now }) q × Shows state.new q)) }
@@ -94,9 +95,9 @@ pub(crate) fn take_line<F: Family<W>, const W: u32>(
     number: u32,
 ) -> Result<(), LineFault>
     requires width { IsWidth W }
-    requires size { length line.now ≤ 16777216 }
+    requires size { length line.now ≤ MOST_BYTES }
     requires line { IsLine line.now }
-    requires few { length state.old.names < 16777216 }
+    requires few { length state.old.names < MOST_BYTES }
     requires stands { (p : Position W) × Shows state.old p }
     ensures moved { OnOk result ((p : Position W) → Shows state.old p →
         (q : Position W) × (Step W F.Reads p (record { number = number; bytes = line.now }) q × Shows state.new q)) }

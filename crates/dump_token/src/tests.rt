@@ -1,12 +1,14 @@
 ghost use Rattle.std.specs.Prelude.{◌≤◌, length};
+ghost use Rattle.limits.specs.declared.TheConstants.{MOST_BYTES};
 
 use super::*;
+use limits::MOST_BYTES;
 use std::alloc::Global;
 use std::test::Fail;
 
 // The texts of the words, each after a bar, or after a quote where it stood in quotes.
 fn shown(alloc: Global, line: &[u8]) -> Result<Vec<u8>, TokenFault>
-    requires { length line.now ≤ 16777216 }
+    requires { length line.now ≤ MOST_BYTES }
 {
     let words = tokens(alloc, line)?;
     let mut shown = Vec::new(alloc);
@@ -41,7 +43,7 @@ fn words_and_quoted_words(rt: HostRuntime) -> Result<(), Fail> {
         (b"\"it\\'s; a `b` -- c\"", b"\"it's; a `b` -- c"),
     ];
     for (line, want) in cases {
-        assert!(rt; line.len() <= 16777216);
+        assert!(rt; line.len() <= MOST_BYTES);
         match shown(rt.alloc(), line) {
             Ok(found) => assert_eq!(rt; found.as_slice(), want),
             Err(_) => assert!(rt; false),
@@ -60,7 +62,7 @@ fn a_quote_that_is_never_closed(rt: HostRuntime) {
         b"\"\\",
     ];
     for line in lines {
-        assert!(rt; line.len() <= 16777216);
+        assert!(rt; line.len() <= MOST_BYTES);
         assert!(rt; matches!(shown(rt.alloc(), line), Err(TokenFault::Quote)));
     }
 }

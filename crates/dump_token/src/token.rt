@@ -1,5 +1,6 @@
 ghost use Rattle.std.specs.Prelude.{◌≡◌, ◌≤◌, ◌<◌, ◌+◌, ◌∷◌, [], ℕ, List as Seq, drop, length, IfErr, IfOk, IfSome, IfNone, not};
 ghost use Rattle.std.specs.List.{prefix_len};
+ghost use Rattle.limits.specs.declared.TheConstants.{MOST_BYTES};
 ghost use Rattle.dump_token.specs.Faults.{HasNoWords, IsLeftOpen, OnQuote};
 ghost use Rattle.dump_token.specs.Words.{is_blank, AreBlanks, AreWords, Begins, BeginsNoBlank, BeginsPlain, IsFirst, IsUnclosed, OpensQuote};
 
@@ -61,7 +62,7 @@ fn after(bytes: &[u8], at: usize) -> &[u8]
 
 // The word that the bytes begin with, which is no quoted one. They stand from `start` on.
 fn plain_word(alloc: Global, bytes: &[u8], start: usize) -> Result<Token, AllocError>
-    requires room { start + length bytes.now ≤ 16777216 }
+    requires room { start + length bytes.now ≤ MOST_BYTES }
     requires first { BeginsPlain bytes.now }
     ensures { IfOk result (λ word. (rest : Seq ℕ) × Begins start word bytes.now rest) }
 {
@@ -77,7 +78,7 @@ fn plain_word(alloc: Global, bytes: &[u8], start: usize) -> Result<Token, AllocE
 
 // The quoted word whose bytes after its first quote are these. That quote stands at `start`.
 fn quoted_word(alloc: Global, bytes: &[u8], start: usize) -> Result<Token, TokenFault>
-    requires room { start + length bytes.now < 16777216 }
+    requires room { start + length bytes.now < MOST_BYTES }
     ensures found { IfOk result (λ word. (rest : Seq ℕ) × Begins start word (34 ∷ bytes.now) rest) }
     ensures open { IfErr result (OnQuote (IsUnclosed bytes.now)) }
 {
@@ -94,7 +95,7 @@ fn quoted_word(alloc: Global, bytes: &[u8], start: usize) -> Result<Token, Token
 
 // The word that the bytes begin with, if there are any. They stand from `start` on.
 fn word_at(alloc: Global, bytes: &[u8], start: usize) -> Result<Option<Token>, TokenFault>
-    requires room { start + length bytes.now ≤ 16777216 }
+    requires room { start + length bytes.now ≤ MOST_BYTES }
     requires first { BeginsNoBlank bytes.now }
     ensures found { IfOk result (λ found. IfSome found (λ word. (rest : Seq ℕ) × Begins start word bytes.now rest)) }
     ensures none { IfOk result (λ found. IfNone found (bytes.now ≡ [])) }
@@ -111,7 +112,7 @@ fn word_at(alloc: Global, bytes: &[u8], start: usize) -> Result<Option<Token>, T
 
 // The first word that stands at `at` or later.
 fn next_word(alloc: Global, line: &[u8], at: usize) -> Result<Option<Token>, TokenFault>
-    requires room { length line.now ≤ 16777216 }
+    requires room { length line.now ≤ MOST_BYTES }
     requires inside { at ≤ length line.now }
     ensures found { IfOk result (λ found. IfSome found (λ word. (rest : Seq ℕ) × IsFirst at word (drop at line.now) rest)) }
     ensures none { IfOk result (λ found. IfNone found (AreBlanks (drop at line.now))) }
@@ -122,11 +123,11 @@ fn next_word(alloc: Global, line: &[u8], at: usize) -> Result<Option<Token>, Tok
     word_at(alloc, after(rest, gap), at + gap)
 }
 
-/// The words of a line of at most 16,777,216 bytes, in the order of the line.
+/// The words of a line of at most `limits::MOST_BYTES` bytes, in the order of the line.
 ///
 /// `Quote` comes exactly where a quote that opens a word is never closed.
 pub fn tokens(alloc: Global, line: &[u8]) -> Result<List<Token>, TokenFault>
-    requires { length line.now ≤ 16777216 }
+    requires { length line.now ≤ MOST_BYTES }
     ensures words { IfOk result (λ words. AreWords 0 words line.now) }
     ensures open { IfErr result (OnQuote (IsLeftOpen line.now)) }
     ensures none { IfErr result (OnQuote (HasNoWords line.now)) }

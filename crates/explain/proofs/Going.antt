@@ -1,6 +1,6 @@
 -- What the chosen walk has come to before a rule of a chain.
 use Rattle.std.specs.Prelude.{ℕ, ◌+◌, ◌-◌, ◌<◌, ◌≤◌, ◌≡◌, ◌^◌, Bool, true, false, List, [], ◌∷◌, ◌++◌, length, take, Option, None, Some, slice_get, get_or, is_some, refl}
-use Rattle.std.proofs.Common.{arith, subst, sym, ap, ◌∙◌, append_assoc, true≢false}
+use Rattle.std.proofs.Common.{arith, subst, sym, ap, ◌∙◌, append_assoc, append-nil, true≢false}
 use Rattle.std.proofs.lemmas.List.{take_all, take-append-le, length-append}
 use Rattle.std.proofs.lemmas.Option.{slice_get-get_or, slice_get_past}
 use Rattle.fw_rule.specs.declared.rule.Verdict.{Verdict}
@@ -10,18 +10,17 @@ use Rattle.fw_rule.specs.declared.rule.Rule.{Rule}
 use Rattle.fw_rule.specs.declared.rule.Chain.{Chain}
 use Rattle.fw_rule.specs.declared.rule.Dump.{Dump}
 use Rattle.fw_rule.specs.declared.rule.Place.{Place}
-use Rattle.fw_rule.specs.Walk.{Path, HasRoom}
-use Rattle.fw_rule.specs.Walk.{Calls, RuleOf}
+use Rattle.fw_rule.specs.Walk.{Path, HasRoom, Calls, RuleOf, target_of}
 use Rattle.fw_rule.proofs.Ends.{found_at, contains_at}
 use Rattle.fw_rule.proofs.Turns.{chain_room, rule_room}
 use Rattle.chain_graph.specs.Marks.{AreRulesOf}
 use Rattle.explain.specs.declared.views.Sight.{Sight}
 use Rattle.explain.specs.declared.views.View.{View}
 use Rattle.explain.specs.Choices.{unknown_places}
-use Rattle.explain.specs.Reaching.{is_reached}
-use Rattle.explain.specs.Views.{Has, AreRight, Covers, IsSight}
-use Rattle.explain.specs.Choosing.{is_passed, ChoosesUpTo, ChoosesTo}
-use Rattle.explain.proofs.Order.{step_of}
+use Rattle.explain.specs.inner.Reaching.{is_reached}
+use Rattle.explain.specs.inner.Views.{Has, AreRight, Covers, IsSight}
+use Rattle.explain.specs.inner.Choosing.{is_passed, ChoosesUpTo, ChoosesTo}
+use Rattle.fw_laws.specs.Frames.{step_of}
 use Rattle.explain.proofs.ChoosingLemmas.{up_to_start, up_to_end, up_to_next, up_to_outcome, up_to_passing, up_to_verdict, up_to_return}
 
 -- an outcome that is a verdict, and one that isn't
@@ -55,7 +54,7 @@ module _ {P : Type 0} (dump : Dump P) (c : ℕ) (rules : List (Rule P)) (at : Ar
     pub rule_of : RuleOf dump c rule
     rule_of = (at.0, at.1, contains_at (at.0).rules next rule (rule_at at.0 at.1))
 
-    pub calls_of : (k : ℕ) → rule.action ≡ Action.Call k → Calls dump c k
+    pub calls_of : (k : ℕ) → target_of rule.action ≡ Some k → Calls dump c k
     calls_of k a = (rule, rule_of, a)
 
     pub lits_fit : HasRoom dump → length rule.lits < 2 ^ 32
@@ -96,18 +95,14 @@ module _ {P Packet : Type 0} (holds : P → Packet → Bool) (dump : Dump P) (vi
   abbrev pub Gone : Option Verdict → List Place → Type 0
   Gone o places = (added : List Place) × (places ≡ start ++ added) × ((p : Packet) (v : Verdict) → AreRight holds dump p v views → ChoosesTo holds dump p v c start_path past_end added o)
 
-  nothing_added : (xs : List Place) → xs ≡ xs ++ []
-  nothing_added [] = refl
-  nothing_added (x ∷ xs) = ap (λ (z : List Place). x ∷ z) (nothing_added xs)
-
   pub going_first : Going 0 start_path start
-  going_first = record { path_is = refl; added = []; places_is = nothing_added start; chooses = λ p v right. up_to_start holds dump p v c start_path past_end }
+  going_first = record { path_is = refl; added = []; places_is = sym (append-nil start); chooses = λ p v right. up_to_start holds dump p v c start_path past_end }
 
   module _ (next : ℕ) (path : Path) (places : List Place) (g : Going next path places) where
     pub gone_past : ((here : Chain P) → slice_get dump.chains c ≡ Some here → slice_get here.rules next ≡ None) → Gone None places
     gone_past past = (
       g.added ++ [],
-      g.places_is ∙ ap (λ (z : List Place). start ++ z) (nothing_added g.added),
+      g.places_is ∙ ap (λ (z : List Place). start ++ z) (sym (append-nil g.added)),
       λ p v right. up_to_end holds dump p v c next start_path past_end g.added (g.chooses p v right) past,
     )
 

@@ -1,5 +1,4 @@
 pub mod Once
-pub mod Order
 pub mod Literals
 pub mod Turning
 pub mod Following

@@ -1,8 +1,9 @@
 -- What the literals of a rule have to do with its known part.
-use Rattle.std.specs.Prelude.{ℕ, suc, ◌+◌, ◌<◌, ◌≡◌, Bool, true, false, ◌&&◌, ◌||◌, if◌then◌else◌, List, [], ◌∷◌, ◌++◌, map, length, drop, get_or, refl}
+use Rattle.std.specs.Prelude.{ℕ, suc, ◌+◌, ◌<◌, ◌≡◌, Bool, true, false, ◌&&◌, if◌then◌else◌, List, [], ◌∷◌, ◌++◌, map, length, drop, get_or, refl}
 use Rattle.std.proofs.Common.{sym, ap, ◌∙◌, true≢false, add-one, drop-cons}
 use Rattle.std.specs.List.{list_any}
 use Rattle.std.proofs.lemmas.List.Folds.{list_any-append}
+use Rattle.basics.proofs.Truths.{and_false, or_left, or_right}
 use Rattle.match_expr.specs.Meaning.{eval_of, every}
 use Rattle.match_expr.specs.declared.expr.Expr.{Expr}
 use Rattle.match_expr.specs.declared.expr.Expr.TheVariants.{Not}
@@ -13,29 +14,17 @@ use Rattle.fw_rule.specs.declared.rule.Place.{Place}
 use Rattle.fw_rule.specs.Walk.{Path, Meaning, same_place, known_holds, literals_hold, known_in, known_of, doubt_in}
 use Rattle.fw_laws.proofs.SamePlace.{same_itself}
 use Rattle.explain.specs.Choices.{unknown_places}
-use Rattle.explain.specs.Reaching.{may_hold}
+use Rattle.explain.specs.inner.Reaching.{may_hold}
 
 -- whether a meaning has the place of a literal
 abbrev pub has_place : Path → ℕ → Meaning → Bool
 has_place path l m = list_any (same_place (record { steps = path; lit = l })) m
 
-pub and_false : (a : Bool) → (a && false) ≡ false
-and_false true = refl
-and_false false = refl
-
-or_true : (a b : Bool) → b ≡ true → (a || b) ≡ true
-or_true true b e = refl
-or_true false b e = e
-
-true_or : (a b : Bool) → a ≡ true → (a || b) ≡ true
-true_or true b e = refl
-true_or false b e = absurd (true≢false (sym e))
-
 -- what the middle of three meanings has, all have
 pub in_middle : (a b c : Meaning) (path : Path) (l : ℕ) → has_place path l b ≡ true → has_place path l (a ++ (b ++ c)) ≡ true
 in_middle a b c path l e =
     let test = same_place (record { steps = path; lit = l }) in
-    list_any-append test a (b ++ c) ∙ or_true (list_any test a) (list_any test (b ++ c)) (list_any-append test b c ∙ true_or (list_any test b) (list_any test c) e)
+    list_any-append test a (b ++ c) ∙ or_right (list_any test a) (list_any test (b ++ c)) (list_any-append test b c ∙ or_left (list_any test b) (list_any test c) e)
 
 module _ {P Packet : Type 0} (holds : P → Packet → Bool) (p : Packet) where
   abbrev h : P → Bool
@@ -101,8 +90,8 @@ module _ {P Packet : Type 0} (holds : P → Packet → Bool) (p : Packet) where
         by false rest q = absurd (true≢false (sym q))
     taken l (Lit.Unknown text ∷ lits) up k =
         let place : Place = record { steps = path; lit = l } in
-        let first : has_place path l m ≡ true = up l (true_or (same_place place place) (has_place path l (unknown_places path (l + 1) lits)) (same_itself place)) in
-        let rest = taken (l + 1) lits (λ i e. up i (or_true (same_place (record { steps = path; lit = i }) place) (has_place path i (unknown_places path (l + 1) lits)) e)) k in
+        let first : has_place path l m ≡ true = up l (or_left (same_place place place) (has_place path l (unknown_places path (l + 1) lits)) (same_itself place)) in
+        let rest = taken (l + 1) lits (λ i e. up i (or_right (same_place (record { steps = path; lit = i }) place) (has_place path i (unknown_places path (l + 1) lits)) e)) k in
         ap (λ (b : Bool). b && literals_hold holds p m path (l + 1) lits) first ∙ rest
 
 -- the literals from one on

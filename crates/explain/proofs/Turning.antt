@@ -3,16 +3,17 @@ use Rattle.std.specs.Prelude.{ℕ, ◌+◌, ◌≡◌, Bool, true, false, List, 
 use Rattle.std.proofs.Common.{subst, sym, ap, ◌∙◌, true≢false}
 use Rattle.std.proofs.lemmas.Option.{option_and_then_some}
 use Rattle.match_expr.specs.Meaning.{eval_of}
+use Rattle.fw_rule.specs.declared.rule.Verdict.{Verdict}
 use Rattle.fw_rule.specs.declared.rule.Rule.{Rule}
 use Rattle.fw_rule.specs.declared.rule.Chain.{Chain}
 use Rattle.fw_rule.specs.declared.rule.Dump.{Dump}
 use Rattle.fw_rule.specs.Walk.{Path, Meaning, State, At, Frame, act, step, step_at, matches, known_of, doubt_in}
 use Rattle.fw_rule.proofs.Ends.{at_rule, matched, acted}
 use Rattle.explain.specs.Choices.{HasChoice, NoChoice, unknown_places}
-use Rattle.explain.proofs.Order.{step_of}
+use Rattle.fw_laws.specs.Frames.{step_of}
 use Rattle.explain.proofs.Literals.{known_is, sure, failing, taken}
 
-module _ {P Packet : Type 0} (holds : P → Packet → Bool) (dump : Dump P) (p : Packet) (c next : ℕ) (path : Path) (frames : List Frame) where
+module _ {P Packet : Type 0} (holds : P → Packet → Bool) (dump : Dump P) (p : Packet) (policy : Option Verdict) (c next : ℕ) (path : Path) (frames : List Frame) where
   abbrev from : State
   from = At c next path frames
 
@@ -21,12 +22,12 @@ module _ {P Packet : Type 0} (holds : P → Packet → Bool) (dump : Dump P) (p 
 
   -- a rule that is passed over, and one that is taken
   pub over_step : (m : Meaning) (here : Chain P) (rule : Rule P) → HasChoice holds dump p c next here rule → matches holds p m at rule ≡ false →
-      step holds dump p m from ≡ Some (At c (next + 1) path frames)
-  over_step m here rule ch e = matched holds dump p m c here ch.at_chain next path frames rule false ch.at_rule e
+      step holds dump p m policy from ≡ Some (At c (next + 1) path frames)
+  over_step m here rule ch e = matched holds dump p m policy c here ch.at_chain next path frames rule false ch.at_rule e
 
   pub through_step : (m : Meaning) (here : Chain P) (rule : Rule P) → HasChoice holds dump p c next here rule → matches holds p m at rule ≡ true →
-      step holds dump p m from ≡ act here.policy c next path frames rule.action
-  through_step m here rule ch e = acted holds dump p m c here ch.at_chain next path frames rule rule.action ch.at_rule e refl
+      step holds dump p m policy from ≡ act policy c next path frames rule.action
+  through_step m here rule ch e = acted holds dump p m policy c here ch.at_chain next path frames rule rule.action ch.at_rule e refl
 
   -- the rule matches under the places of its own
   pub own_match : (rule : Rule P) → eval_of (λ x. holds x p) (known_of rule) ≡ true → matches holds p (unknown_places at 0 rule.lits) at rule ≡ true
@@ -55,19 +56,19 @@ module _ {P Packet : Type 0} (holds : P → Packet → Bool) (dump : Dump P) (p 
 
   module _ (t : State) where
     pub data Turn : Type 0 where
-      Plain : NoChoice holds dump p from → ((w : Meaning) → step holds dump p w from ≡ Some t) → Turn
+      Plain : NoChoice holds dump p from → ((w : Meaning) → step holds dump p w policy from ≡ Some t) → Turn
       PassesOver : (here : Chain P) (rule : Rule P) → HasChoice holds dump p c next here rule → t ≡ At c (next + 1) path frames → Turn
-      GoesThrough : (here : Chain P) (rule : Rule P) → HasChoice holds dump p c next here rule → act here.policy c next path frames rule.action ≡ Some t → Turn
+      GoesThrough : (here : Chain P) (rule : Rule P) → HasChoice holds dump p c next here rule → act policy c next path frames rule.action ≡ Some t → Turn
 
-    module _ (m : Meaning) (e : step holds dump p m from ≡ Some t) (here : Chain P) (at_c : slice_get dump.chains c ≡ Some here) where
+    module _ (m : Meaning) (e : step holds dump p m policy from ≡ Some t) (here : Chain P) (at_c : slice_get dump.chains c ≡ Some here) where
       without_rule : slice_get here.rules next ≡ None → Turn
       without_rule q = Plain (λ h r ch. no_rule here h r at_c q ch) (λ w.
-          at_rule holds dump p w c here at_c next path frames None q ∙ sym (at_rule holds dump p m c here at_c next path frames None q) ∙ e)
+          at_rule holds dump p w policy c here at_c next path frames None q ∙ sym (at_rule holds dump p m policy c here at_c next path frames None q) ∙ e)
 
       module _ (rule : Rule P) (q : slice_get here.rules next ≡ Some rule) where
-        alike : (w : Meaning) → matches holds p w at rule ≡ matches holds p m at rule → step holds dump p w from ≡ Some t
-        alike w same = matched holds dump p w c here at_c next path frames rule (matches holds p m at rule) q same
-            ∙ sym (matched holds dump p m c here at_c next path frames rule (matches holds p m at rule) q refl) ∙ e
+        alike : (w : Meaning) → matches holds p w at rule ≡ matches holds p m at rule → step holds dump p w policy from ≡ Some t
+        alike w same = matched holds dump p w policy c here at_c next path frames rule (matches holds p m at rule) q same
+            ∙ sym (matched holds dump p m policy c here at_c next path frames rule (matches holds p m at rule) q refl) ∙ e
 
         by_match : HasChoice holds dump p c next here rule → (b : Bool) → matches holds p m at rule ≡ b → Turn
         by_match ch true b = GoesThrough here rule ch (sym (through_step m here rule ch b) ∙ e)
@@ -84,15 +85,15 @@ module _ {P Packet : Type 0} (holds : P → Packet → Bool) (dump : Dump P) (p 
       by_rule None q = without_rule q
       by_rule (Some rule) q = by_literals rule q (eval_of (λ x. holds x p) (known_of rule)) (doubt_in rule.lits) refl refl
 
-    pub turn : (m : Meaning) → step holds dump p m from ≡ Some t → Turn
-    turn m e = option_and_then_some (λ (here : Chain P). step_at holds dump p m c next path frames here (slice_get here.rules next)) (slice_get dump.chains c) t e
+    pub turn : (m : Meaning) → step holds dump p m policy from ≡ Some t → Turn
+    turn m e = option_and_then_some (λ (here : Chain P). step_at holds dump p m policy c next path frames (slice_get here.rules next)) (slice_get dump.chains c) t e
         (λ here at_c h. by_rule m e here at_c (slice_get here.rules next) refl)
 
     -- where there is no choice, what is a step under one meaning is one under each
-    pub plain_step : (m w : Meaning) → NoChoice holds dump p from → step holds dump p m from ≡ Some t → step holds dump p w from ≡ Some t
+    pub plain_step : (m w : Meaning) → NoChoice holds dump p from → step holds dump p m policy from ≡ Some t → step holds dump p w policy from ≡ Some t
     plain_step m w none e = by (turn m e)
       where
-        by : Turn → step holds dump p w from ≡ Some t
+        by : Turn → step holds dump p w policy from ≡ Some t
         by (Plain n f) = f w
         by (PassesOver here rule ch q) = absurd (none here rule ch)
         by (GoesThrough here rule ch q) = absurd (none here rule ch)

@@ -7,25 +7,23 @@ use Rattle.std.proofs.lemmas.Option.{slice_get-get_or, slice_get_within, slice_g
 use Rattle.std.proofs.lemmas.Bool.{cases_eq}
 use Rattle.match_expr.specs.Meaning.{eval_of}
 use Rattle.fw_rule.specs.declared.rule.Verdict.{Verdict}
-use Rattle.fw_rule.specs.declared.rule.Action.{Action}
 use Rattle.fw_rule.specs.declared.rule.Rule.{Rule}
 use Rattle.fw_rule.specs.declared.rule.Chain.{Chain}
 use Rattle.fw_rule.specs.declared.rule.Dump.{Dump}
-use Rattle.fw_rule.specs.Walk.{Calls, known_of, doubt_in}
-use Rattle.fw_rule.proofs.Ends.{found_at}
+use Rattle.fw_rule.specs.Walk.{Calls, target_of, known_of, doubt_in}
 use Rattle.chain_graph.specs.Marks.{AreRulesOf}
 use Rattle.chain_graph.proofs.RankLemmas.{get_set_same, get_set_other}
 use Rattle.explain.specs.declared.reach.Reach.{Reach}
 use Rattle.explain.specs.declared.views.Sight.{Sight}
 use Rattle.explain.specs.declared.views.View.{View}
-use Rattle.explain.specs.Reaching.{match_of, by_action, by_match, ReachIs}
-use Rattle.explain.specs.Views.{Has, IsSight, IsView, AreRight, Covers, Keeps}
+use Rattle.explain.specs.inner.Reaching.{match_of, by_action, by_match, ReachIs}
+use Rattle.explain.specs.inner.Views.{Has, IsSight, IsView, AreRight, Covers, Keeps}
 use Rattle.explain.proofs.ReachLemmas.{reach_past, reach_more}
 
 module _ {P Packet : Type 0} (holds : P → Packet → Bool) (dump : Dump P) (p : Packet) (v : Verdict) (c : ℕ) where
   -- a view of the chain that a rule calls, and what is reached there
   abbrev pub CalleeIs : List (Option View) → Reach → Rule P → Type 0
-  CalleeIs views callee rule = (k : ℕ) → rule.action ≡ Action.Call k → ((view : View) × Has views k view) × ReachIs holds dump p v k 0 callee
+  CalleeIs views callee rule = (k : ℕ) → target_of rule.action ≡ Some k → ((view : View) × Has views k view) × ReachIs holds dump p v k 0 callee
 
   -- what is known when the rules from `left` on are seen
   pub record Seen (rules : List (Rule P)) (left : ℕ) (start views : List (Option View)) (sights : List Sight) (behind : Reach) : Type 0 where
@@ -35,7 +33,7 @@ module _ {P Packet : Type 0} (holds : P → Packet → Bool) (dump : Dump P) (p 
     pub inside : left ≤ length rules
     pub long : length sights ≡ length rules
     pub seen : (n : ℕ) (sight : Sight) → left ≤ n → slice_get sights n ≡ Some sight → IsSight holds dump p v c n sight
-    pub called : (n k : ℕ) (rule : Rule P) → left ≤ n → slice_get rules n ≡ Some rule → rule.action ≡ Action.Call k → (view : View) × Has views k view
+    pub called : (n k : ℕ) (rule : Rule P) → left ≤ n → slice_get rules n ≡ Some rule → target_of rule.action ≡ Some k → (view : View) × Has views k view
     pub reach : ReachIs holds dump p v c left behind
 
   module _ (rules : List (Rule P)) (at : AreRulesOf dump c rules) where
@@ -68,11 +66,8 @@ module _ {P Packet : Type 0} (holds : P → Packet → Bool) (dump : Dump P) (p 
       at_rule : slice_get (at.0).rules next ≡ Some rule
       at_rule = ap (λ (z : List (Rule P)). slice_get z next) (sym at.2) ∙ rule_is
 
-      there : (k : ℕ) → rule.action ≡ Action.Call k → (chain : Chain P) × (slice_get dump.chains k ≡ Some chain) × ReachIs holds dump p v k 0 callee
-      there k a =
-          let f = callee_is k a in
-          let inside : k < length dump.chains = (let l = slice_get_within views' k (Some (f.0).0) (f.0).1 in omega (arith, l, covers.long)) in
-          let g = found_at dump.chains k inside in (g.0, g.1, f.1)
+      there : (k : ℕ) → target_of rule.action ≡ Some k → ReachIs holds dump p v k 0 callee
+      there k a = (callee_is k a).1
 
       sight_here : IsSight holds dump p v c next sight
       sight_here here r e q =
@@ -97,7 +92,7 @@ module _ {P Packet : Type 0} (holds : P → Packet → Bool) (dump : Dump P) (p 
           | inr ne ↦ s.seen n other (omega (arith, h, ne, next_is)) (sym (get_set_other sights next n sight ne) ∙ q)
         ];
         called = λ n k r h q a. elim (cases_eq n next) [
-          | inl e ↦ (let same : rule ≡ r = same_rule r (sym rule_is ∙ subst (λ (i : ℕ). slice_get rules i ≡ Some r) e q) in (callee_is k (ap (λ (z : Rule P). z.action) same ∙ a)).0)
+          | inl e ↦ (let same : rule ≡ r = same_rule r (sym rule_is ∙ subst (λ (i : ℕ). slice_get rules i ≡ Some r) e q) in (callee_is k (ap (λ (z : Rule P). target_of z.action) same ∙ a)).0)
           | inr ne ↦ (let o = s.called n k r (omega (arith, h, ne, next_is)) q a in keeps k o.0 o.1)
         ];
         reach = subst (ReachIs holds dump p v c next)
@@ -177,15 +172,15 @@ all_seen holds dump p v c rules left start views sights all behind h e s =
 
 module _ {P Packet : Type 0} (holds : P → Packet → Bool) (dump : Dump P) (p : Packet) (v : Verdict) (c : ℕ) (rule : Rule P) where
   -- the rule calls a chain whose view is there, or it calls none
-  pub called_one : (views : List (Option View)) (callee : Reach) (k : ℕ) → rule.action ≡ Action.Call k → ((view : View) × Has views k view) → ReachIs holds dump p v k 0 callee → CalleeIs holds dump p v c views callee rule
+  pub called_one : (views : List (Option View)) (callee : Reach) (k : ℕ) → target_of rule.action ≡ Some k → ((view : View) × Has views k view) → ReachIs holds dump p v k 0 callee → CalleeIs holds dump p v c views callee rule
   called_one views callee k a has is j b =
       let same : k ≡ j = same_callee (sym a ∙ b) in subst (λ (z : ℕ). ((view : View) × Has views z view) × ReachIs holds dump p v z 0 callee) same (has, is)
     where
-      same_callee : Action.Call k ≡ Action.Call j → k ≡ j
+      same_callee : Some k ≡ Some j → k ≡ j
       same_callee e = cc
 
-  pub called_none : (views : List (Option View)) (callee : Reach) → ((k : ℕ) → rule.action ≡ Action.Call k → ⊥) → CalleeIs holds dump p v c views callee rule
-  called_none views callee none k a = absurd (none k a)
+  pub called_none : (views : List (Option View)) (callee : Reach) → target_of rule.action ≡ None → CalleeIs holds dump p v c views callee rule
+  called_none views callee none k a = let e : None ≡ Some k = sym none ∙ a in cc
 
   pub callee_same : (views views' : List (Option View)) (callee callee' : Reach) → views' ≡ views → callee' ≡ callee → CalleeIs holds dump p v c views callee rule → CalleeIs holds dump p v c views' callee' rule
   callee_same views views' callee callee' e f h =

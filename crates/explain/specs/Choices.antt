@@ -1,5 +1,5 @@
 -- The walk that is chosen to explain a verdict, and the places that it takes to hold.
-use Rattle.std.specs.Prelude.{ℕ, ◌+◌, ◌≡◌, Bool, true, List, [], ◌∷◌, ◌++◌, Some, slice_get}
+use Rattle.std.specs.Prelude.{ℕ, ◌+◌, ◌≡◌, Bool, true, List, [], ◌∷◌, ◌++◌, Option, Some, slice_get}
 use Rattle.match_expr.specs.Meaning.{eval_of}
 use Rattle.fw_rule.specs.declared.rule.Verdict.{Verdict}
 use Rattle.fw_rule.specs.declared.rule.Lit.{Lit}
@@ -16,11 +16,8 @@ unknown_places path l (Lit.Known neg expr ∷ lits) = unknown_places path (l + 1
 unknown_places path l (Lit.Unknown text ∷ lits) = record { steps = path; lit = l } ∷ unknown_places path (l + 1) lits
 
 module _ {P Packet : Type 0} (holds : P → Packet → Bool) (dump : Dump P) (p : Packet) where
-  -- the verdict can be reached from the state: some meaning's walk from there has it
-  abbrev pub Can : State → Verdict → Type 0
-  Can s v = (m : Meaning) × (k : ℕ) × (after holds dump p m k s ≡ Some (Ended v))
-
-  -- before the rule `next` of a chain there is a choice where the known literals of the rule hold and it has an unknown one
+  -- before the rule `next` of a chain there is a choice where the known literals of the rule hold and it has an unknown
+  -- one
   pub record HasChoice (chain next : ℕ) (here : Chain P) (rule : Rule P) : Type 0 where
     pub at_chain : slice_get dump.chains chain ≡ Some here
     pub at_rule : slice_get here.rules next ≡ Some rule
@@ -32,18 +29,25 @@ module _ {P Packet : Type 0} (holds : P → Packet → Bool) (dump : Dump P) (p 
   NoChoice (At chain next path frames) = (here : Chain P) (rule : Rule P) → HasChoice chain next here rule → ⊥
   NoChoice (Ended v) = Unit {0}
 
-  module _ (Passed Taken : State → Type 0) (v : Verdict) where
-    -- a walk to the verdict that decides at each choice, with the places of all unknown literals of the rules that it took as matching, in order of visit.
-    -- Of the state behind the rule holds `Passed` where the rule was passed over, and `Taken` where it was taken
-    pub data Goes : State → List Place → Type 0 where
-      Arrives : Goes (Ended v) []
-      Steps : {s t : State} {places : List Place} → NoChoice s → step holds dump p [] s ≡ Some t → Goes t places → Goes s places
-      Passes : {chain next : ℕ} {path : Path} {frames : List Frame} {places : List Place} (here : Chain P) (rule : Rule P) → HasChoice chain next here rule →
-          Passed (At chain (next + 1) path frames) → Goes (At chain (next + 1) path frames) places → Goes (At chain next path frames) places
-      Takes : {chain next : ℕ} {path : Path} {frames : List Frame} {t : State} {places : List Place} (here : Chain P) (rule : Rule P) → HasChoice chain next here rule →
-          Taken (At chain (next + 1) path frames) → act here.policy chain next path frames rule.action ≡ Some t → Goes t places →
-          Goes (At chain next path frames) (unknown_places (path ++ record { chain = chain; rule = next } ∷ []) 0 rule.lits ++ places)
+  -- a walk from a chain with this policy
+  module _ (policy : Option Verdict) where
+    -- the verdict can be reached from the state: some meaning's walk from there has it
+    abbrev pub Can : State → Verdict → Type 0
+    Can s v = (m : Meaning) × (k : ℕ) × (after holds dump p m policy k s ≡ Some (Ended v))
 
-  -- the chosen walk from a state passes a rule over where the verdict can still be reached behind it, and else takes it
-  abbrev pub Explains : Verdict → State → List Place → Type 0
-  Explains v = Goes (λ t. Can t v) (λ t. ¬ Can t v) v
+    module _ (v : Verdict) where
+      -- the chosen walk from a state to the verdict, with the places of all unknown literals of the rules that it takes,
+      -- in order of visit: at each choice it passes the rule over where the verdict can still be reached behind it, and
+      -- else takes it
+      pub data ExplainsFrom : State → List Place → Type 0 where
+        Arrives : ExplainsFrom (Ended v) []
+        Steps : {s t : State} {places : List Place} → NoChoice s → step holds dump p [] policy s ≡ Some t →
+            ExplainsFrom t places → ExplainsFrom s places
+        SkipsRule : {chain next : ℕ} {path : Path} {frames : List Frame} {places : List Place}
+            (here : Chain P) (rule : Rule P) → HasChoice chain next here rule → Can (At chain (next + 1) path frames) v →
+            ExplainsFrom (At chain (next + 1) path frames) places → ExplainsFrom (At chain next path frames) places
+        TakesRule : {chain next : ℕ} {path : Path} {frames : List Frame} {t : State} {places : List Place}
+            (here : Chain P) (rule : Rule P) → HasChoice chain next here rule → ¬ Can (At chain (next + 1) path frames) v →
+            act policy chain next path frames rule.action ≡ Some t → ExplainsFrom t places →
+            ExplainsFrom (At chain next path frames)
+            (unknown_places (path ++ record { chain = chain; rule = next } ∷ []) 0 rule.lits ++ places)

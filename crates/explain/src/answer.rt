@@ -9,7 +9,7 @@ use thiserror::Error;
 /// Why a verdict can't be explained.
 #[derive(Debug, Drop, Error)]
 pub enum ExplainFault {
-    /// The chain's rules, counted over all call paths, are more than 16,777,216.
+    /// The chain's rules, counted over all call paths, are more than `limits::MOST_VISITS`.
     #[error("too many visits")]
     Visits,
     /// Memory ran out.
@@ -25,7 +25,8 @@ impl From<AllocError> for ExplainFault {
     }
 }
 
-/// For each verdict a meaning whose walk has it: the places of the unknown literals that are to hold, in the order in which the walk comes to them. None where no meaning's walk has the verdict.
+/// For each verdict a meaning whose walk has it: the places of the unknown literals that are to hold, in the order in
+/// which the walk comes to them. None where no meaning's walk has the verdict.
 #[derive(Debug, Drop)]
 pub struct Explain {
     pub accept: Option<List<Place>>,

@@ -3,9 +3,9 @@ ghost use Rattle.fw_rule.specs.Walk.{InSettled, Within, HasRoom};
 ghost use Rattle.fw_rule.specs.declared.rule.Place.{Place as place};
 ghost use Rattle.fw_rule.specs.declared.rule.Verdict.{Verdict as verdict};
 ghost use Rattle.explain.specs.Choices.{unknown_places};
-ghost use Rattle.explain.specs.Choosing as spec;
-ghost use Rattle.explain.specs.Reaching as reaching;
-ghost use Rattle.explain.specs.Views.{Has, AreRight, Covers};
+ghost use Rattle.explain.specs.inner.Choosing as spec;
+ghost use Rattle.explain.specs.inner.Reaching as reaching;
+ghost use Rattle.explain.specs.inner.Views.{Has, AreRight, Covers};
 ghost use Rattle.explain.specs.declared.views.View as seen;
 
 use crate::reach::{Match, is_reached};
@@ -58,7 +58,8 @@ fn push_places<P: Primitive>(
     Ok(())
 }
 
-/// What the chosen walk comes to in a chain: a verdict, or None where it comes to the chain's end or goes back. The places that it takes to hold are put behind the others.
+/// What the chosen walk comes to in a chain: a verdict, or None where it comes to the chain's end or goes back. The
+/// places that it takes to hold are put behind the others.
 pub(crate) fn choose_in<P: Primitive>(
     alloc: Global,
     dump: &Dump<P>,

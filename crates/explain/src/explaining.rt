@@ -1,8 +1,8 @@
-ghost use Rattle.std.specs.Prelude.{◌≡◌, ◌↔◌, ◌<◌, Some, slice_get, IfOk};
+ghost use Rattle.std.specs.Prelude.{◌≡◌, ◌↔◌, ◌<◌, IfOk};
 ghost use Rattle.fw_rule.specs.Walk.{Settled, Within, HasRoom};
-ghost use Rattle.fw_rule.specs.declared.rule.Chain.{Chain};
 ghost use Rattle.fw_rule.specs.declared.rule.Verdict as verdict;
 ghost use Rattle.chain_graph.specs.Results.{IsRanked};
+ghost use Rattle.limits.specs.declared.TheConstants.{MOST_VISITS};
 ghost use Rattle.explain.specs.Answers.{IsExplained};
 
 use crate::answer::{Explain, ExplainFault};
@@ -10,27 +10,10 @@ use crate::choosing::choose_in;
 use crate::reach::is_reached;
 use crate::views::{no_views, view_chain};
 use chain_graph::Ranked;
-use fw_rule::{Dump, Place, Verdict};
+use fw_rule::{Dump, Place, Verdict, settled_policy};
+use limits::{MOST_CHAINS, MOST_VISITS};
 use match_expr::{List, Primitive};
 use std::alloc::{AllocError, Global};
-
-/// How many visits an explanation may take.
-const VISITS: u64 = 16_777_216;
-
-/// How many chains a call path of a ranked chain has at most.
-const DEEPEST: u32 = 256;
-
-/// The policy of a chain that has one.
-fn policy_of<P: Primitive>(dump: &Dump<P>, chain: u32) -> Verdict
-    requires { Settled dump.now chain }
-    ensures { (here : Chain P) × (slice_get dump.now.chains chain ≡ Some here) × (here.policy ≡ Some result) }
-{
-    let here = &dump.chains.as_slice()[chain as usize];
-    match here.policy {
-        Some(policy) => policy,
-        None => unreachable!(),
-    }
-}
 
 /// The explanation of one verdict.
 fn explain_verdict<P: Primitive>(
@@ -48,7 +31,7 @@ fn explain_verdict<P: Primitive>(
 {
     let mut views = no_views(alloc, dump)?;
     let start = view_chain(alloc, dump, wanted, p, chain, depth, &mut views)?;
-    let by_policy = policy_of(dump, chain) == wanted;
+    let by_policy = settled_policy(dump, chain) == wanted;
     if !is_reached(start, by_policy) {
         return Ok(None);
     }
@@ -67,10 +50,11 @@ fn explain_verdict<P: Primitive>(
     Ok(Some(List::of(places)))
 }
 
-/// For each verdict that some meaning's walk of the packet has, the meaning of the chosen walk: before each doubtful rule whose known literals hold, it passes the rule over where the verdict can still be
-/// reached behind it, and else takes the rule. All unknown literals of the rules that it takes hold.
+/// For each verdict that some meaning's walk of the packet has, the meaning of the chosen walk: before each doubtful
+/// rule whose known literals hold, it passes the rule over where the verdict can still be reached behind it, and else
+/// takes the rule. All unknown literals of the rules that it takes hold.
 ///
-/// `Visits` comes exactly where the visits of the chain are more than 16,777,216.
+/// `Visits` comes exactly where the visits of the chain are more than `MOST_VISITS`.
 pub fn explain<P: Primitive>(
     alloc: Global,
     dump: &Dump<P>,
@@ -83,12 +67,12 @@ pub fn explain<P: Primitive>(
     requires room { HasRoom dump.now }
     ensures accept { IfOk result (λ e. IsExplained P.meaning dump.now p.now chain verdict.Verdict.Accept e.accept) }
     ensures drop { IfOk result (λ e. IsExplained P.meaning dump.now p.now chain verdict.Verdict.Drop e.drop) }
-    ensures visits { (result ≡ Err ExplainFault.Visits) ↔ (16777216 < ranked.now.visits) }
+    ensures visits { (result ≡ Err ExplainFault.Visits) ↔ (MOST_VISITS < ranked.now.visits) }
 {
-    if ranked.visits > VISITS {
+    if ranked.visits > MOST_VISITS {
         return Err(ExplainFault::Visits);
     }
-    let accept = explain_verdict(alloc, dump, Verdict::Accept, chain, DEEPEST, p)?;
-    let drop = explain_verdict(alloc, dump, Verdict::Drop, chain, DEEPEST, p)?;
+    let accept = explain_verdict(alloc, dump, Verdict::Accept, chain, MOST_CHAINS, p)?;
+    let drop = explain_verdict(alloc, dump, Verdict::Drop, chain, MOST_CHAINS, p)?;
     Ok(Explain { accept, drop })
 }

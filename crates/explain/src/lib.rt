@@ -1,4 +1,5 @@
-//! Why a packet is accepted or dropped: for each verdict that some meaning of the unknown literals leads to, one such meaning.
+//! Why a packet is accepted or dropped: for each verdict that some meaning of the unknown literals leads to, one such
+//! meaning.
 #![tactic(auto)]
 
 mod answer;
@@ -6,8 +7,6 @@ mod choosing;
 mod explaining;
 mod laws;
 mod reach;
-#[cfg(test)]
-mod tests;
 mod views;
 
 pub use answer::{Explain, ExplainFault};

@@ -1,5 +1,5 @@
 ghost use Rattle.std.specs.Prelude.{◌≡◌};
-ghost use Rattle.explain.specs.Reaching as spec;
+ghost use Rattle.explain.specs.inner.Reaching as spec;
 
 use fw_rule::{Action, Verdict};
 

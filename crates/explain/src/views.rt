@@ -2,13 +2,13 @@ ghost use Rattle.std.specs.Prelude.{◌≡◌, map, None, IfOk, OnOk};
 ghost use Rattle.match_expr.specs.Meaning.{eval_of};
 ghost use Rattle.fw_rule.specs.Walk.{InSettled, Within, known_of};
 ghost use Rattle.fw_rule.specs.declared.rule.Chain.{Chain};
-ghost use Rattle.explain.specs.Reaching as spec;
-ghost use Rattle.explain.specs.Reaching.{ReachIs};
-ghost use Rattle.explain.specs.Views.{Has, AreRight, Covers, Keeps};
+ghost use Rattle.explain.specs.inner.Reaching as spec;
+ghost use Rattle.explain.specs.inner.Reaching.{ReachIs};
+ghost use Rattle.explain.specs.inner.Views.{Has, AreRight, Covers, Keeps};
 ghost use Rattle.explain.specs.declared.views.View as seen;
 
 use crate::reach::{Match, Reach, by_action, by_match, match_of};
-use chain_graph::{callee_of, rules_of};
+use chain_graph::rules_of;
 use fw_rule::{Dump, Lit, Rule, Verdict, doubtful};
 use match_expr::{List, Primitive};
 use std::alloc::{AllocError, Global};
@@ -50,7 +50,8 @@ fn known_holds<P: Primitive>(rule: &Rule<P>, p: &P::Packet) -> bool
     true
 }
 
-/// What is reached from the first rule of a chain on. Its view is put into the table, with those of the chains in its reach, where they aren't there yet.
+/// What is reached from the first rule of a chain on. Its view is put into the table, with those of the chains in its
+/// reach, where they aren't there yet.
 pub(crate) fn view_chain<P: Primitive>(
     alloc: Global,
     dump: &Dump<P>,
@@ -85,7 +86,7 @@ pub(crate) fn view_chain<P: Primitive>(
         left -= 1;
         let rule = &rules[left];
         let mut callee = Reach::Never;
-        if let Some(called) = callee_of(rule) {
+        if let Some(called) = rule.action.target() {
             callee = view_chain(alloc, dump, wanted, p, called, depth - 1, views)?;
         }
         let matching = match_of(known_holds(rule, p), doubtful(rule));

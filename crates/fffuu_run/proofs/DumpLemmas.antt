@@ -1,17 +1,16 @@
 -- What the rules of a dump come from: rule lines with numbers of their own, whose calls name declared chains.
-use Rattle.std.proofs.Common.{◌≡◌, ◌∙◌, ◌⊎◌, ◌+◌, ◌<◌, ◌≤◌, ◌++◌, ◌∷◌, [], ℕ, zero, suc, List, Bool, true, false, cond, Option, Some, None, refl, inl, inr, arith, ap, sym, subst, append_assoc, length, map, filter, not, slice_get, Contains}
-use Rattle.std.specs.Option.{option_map}
+use Rattle.std.proofs.Common.{◌≡◌, ◌∙◌, ◌⊎◌, ◌+◌, ◌<◌, ◌≤◌, ◌++◌, ◌∷◌, [], ℕ, zero, suc, List, Bool, true, false, cond, Option, Some, None, refl, inl, inr, arith, ap, sym, subst, append_assoc, length, map, filter, not, Contains}
 use Rattle.std.specs.List.{flat_map}
 use Rattle.std.specs.Str.{bytes_eq}
 use Rattle.std.proofs.lemmas.List.{length-map}
 use Rattle.std.proofs.lemmas.List.Quantifiers.{position-Some}
-use Rattle.std.proofs.lemmas.Option.{slice_get-map}
+use Rattle.basics.proofs.Lists.{map_contains, map_place}
 use Rattle.primitives.specs.declared.prim.Prim_.{Prim_}
 use Rattle.fw_rule.specs.declared.rule.Action.{Action}
 use Rattle.fw_rule.specs.declared.rule.Rule.{Rule}
 use Rattle.fw_rule.specs.declared.rule.Chain.{Chain}
 use Rattle.fw_rule.specs.declared.rule.Dump.{Dump}
-use Rattle.fw_rule.specs.Calls.{RuleOf}
+use Rattle.fw_rule.specs.Walk.{RuleOf, target_of}
 use Rattle.chain_graph.specs.Paths.{CallsNameChains}
 use Rattle.dump_grammar.specs.declared.chains.Declared.{Declared}
 use Rattle.dump_grammar.specs.Lines.{Text, Word, Numbered, numbered_from, is_passed_over}
@@ -35,13 +34,6 @@ contains_there z zs x (k, below, is) = (suc k, omega arith, is)
 pub contains_none : {X : Type 0} (x : X) → Contains [] x → ⊥
 contains_none x (k, below, is) = omega arith
 
-pub map_from : {X Y : Type 0} (f : X → Y) (xs : List X) (y : Y) → Contains (map f xs) y → (x : X) × Contains xs x × (f x ≡ y)
-map_from f [] y h = absurd (contains_none y h)
-map_from f (x ∷ xs) y h = elim (contains_cons (f x) (map f xs) y h) [
-  | inl same ↦ (x, contains_here x xs, same)
-  | inr later ↦ let (z, there, is) = map_from f xs y later in (z, contains_there x xs z there, is)
-]
-
 kept : {X : Type 0} (b : Bool) (y x : X) (rest : List X) → Contains (cond b (y ∷ rest) rest) x → (y ≡ x) ⊎ Contains rest x
 kept true y x rest h = contains_cons y rest x h
 kept false y x rest h = inr h
@@ -52,10 +44,6 @@ filter_from p (y ∷ ys) x h = elim (kept (p y) y x (filter p ys) h) [
   | inl same ↦ subst (Contains (y ∷ ys)) same (contains_here y ys)
   | inr later ↦ contains_there y ys x (filter_from p ys x later)
 ]
-
-pub mapped : {X Y : Type 0} (f : X → Y) (o : Option X) (y : Y) → option_map f o ≡ Some y → (x : X) × (o ≡ Some x) × (f x ≡ y)
-mapped f (Some x) y is = (x, refl, cc)
-mapped f None y is = absurd (cc)
 
 module _ {X : Type 0} (number : X → ℕ) where
   -- numbers that rise from `n` on
@@ -141,10 +129,14 @@ module _ {W : ℕ} where
       → (placed : Placed W) × Contains rules placed × (rule_of placed ≡ rule)
   unfolding chain_with
   placed_of chains rules c rule (here, at, inside) =
-      let (d, there, is) = mapped (chain_with rules) (slice_get chains c) here (sym (slice_get-map (chain_with rules) chains c) ∙ at) in
-      let (placed, among, same) = map_from rule_of (filter (is_in d.name) rules) rule
+      let (d, there, is) = map_place (chain_with rules) chains c here at in
+      let (placed, among, same) = map_contains rule_of (filter (is_in d.name) rules) rule
       (subst (λ (r : Chain (Prim_ W)). Contains r.rules rule) (sym is) inside) in
       (placed, filter_from (is_in d.name) rules placed among, same)
+
+called : (action : Action) (k : ℕ) → target_of action ≡ Some k → action ≡ Action.Call k
+called (Action.Call j) k is = let same : j ≡ k = cc in ap Action.Call same
+called action k is = absurd (cc)
 
 no_pass : (k : ℕ) → Action.Call k ≡ Action.Pass → ⊥
 no_pass k is = cc
@@ -187,8 +179,8 @@ module _ {W : ℕ} (Reads : Text → ℕ → Type 0) where
   calls_named text dump reads = subst CallsNameChains (sym reads.dump_is) (λ a b (rule, there, calls).
       let (p, among, is) = placed_of reads.chains reads.rules a rule there in
       let (words, line) = line_of_rule (names_of reads.chains) reads.filter_is.inside.rule_lines reads.rules reads.filter_is.inside.spells p among in
-      let below = call_below (names_of reads.chains) line.target b
-      (subst (IsTarget (names_of reads.chains) line.target) (ap (λ (r : Rule (Prim_ W)). r.action) is ∙ calls) line.targeted) in
+      let below = call_below (names_of reads.chains) line.target b (subst (IsTarget (names_of reads.chains) line.target)
+      (ap (λ (r : Rule (Prim_ W)). r.action) is ∙ called rule.action b calls) line.targeted) in
       omega (arith, below, length-map reads.chains (λ (d : Declared). d.name), length-map reads.chains (chain_with reads.rules)))
 
   -- of the rules of a dump that was read one has each line

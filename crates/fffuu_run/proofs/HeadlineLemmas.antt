@@ -1,16 +1,15 @@
 -- The text of a closed chain's rules is a filter of the chain.
 use Rattle.std.proofs.Common.{◌≡◌, ◌∙◌, ◌↔◌, ℕ, List, [], ◌∷◌, Bool, true, false, Option, Some, None, refl, ap, sym, subst, slice_get, is_some, unwrap_or, Contains, map, filter, inl, inr}
-use Rattle.std.proofs.lemmas.Option.{slice_get-map}
+use Rattle.basics.proofs.Lists.{map_place}
 use Rattle.primitives.specs.declared.prim.Prim_.{Prim_}
 use Rattle.primitives.specs.Holds.{holds_of}
 use Rattle.fw_rule.specs.declared.rule.Verdict.{Verdict}
 use Rattle.fw_rule.specs.declared.rule.Chain.{Chain}
 use Rattle.fw_rule.specs.declared.rule.Dump.{Dump}
-use Rattle.fw_rule.specs.Walk.{Walks}
+use Rattle.fw_rule.specs.Walk.{Walks, is_accept}
 use Rattle.fw_rule.proofs.Ends.{contains_at}
 use Rattle.fw_rule.proofs.WalkLaws.{one_verdict}
-use Rattle.closure.specs.declared.sides.Side.{Side}
-use Rattle.closure.specs.Sides.{is_accept}
+use Rattle.fw_rule.specs.declared.side.Side.{Side}
 use Rattle.box_norm.specs.declared.cube.SimpleRule.{SimpleRule}
 use Rattle.box_norm.specs.Normal.{first_of}
 use Rattle.simple_filter.specs.Closed.{Accepts}
@@ -23,7 +22,7 @@ use Rattle.dump_print.specs.Printed.{printed}
 use Rattle.printed_filter.specs.Laws.{MeansItsRules, verdict_of}
 use Rattle.printed_filter.specs.PrintedDump.{printed_dump}
 use Rattle.fffuu_run.specs.Headline.{IsFilterOf, IsChain}
-use Rattle.fffuu_run.proofs.DumpLemmas.{contains_cons, contains_none, mapped}
+use Rattle.fffuu_run.proofs.DumpLemmas.{contains_cons, contains_none}
 
 -- each declared chain has its line
 line_of_chain : (lines : List Numbered) (chains : List Declared) → AreChainLines lines chains → (d : Declared) → Contains chains d
@@ -51,8 +50,7 @@ module _ {W : ℕ} (Reads : Text → ℕ → Type 0) where
   unfolding chain_with
   built_in_name text dump reads chain name policy (here, at, named, has) =
       let same = ap (λ (d : Dump (Prim_ W)). slice_get d.chains chain) reads.dump_is in
-      let (d, there, is) = mapped (chain_with reads.rules) (slice_get reads.chains chain) here
-      (sym (slice_get-map (chain_with reads.rules) reads.chains chain) ∙ sym same ∙ at) in
+      let (d, there, is) = map_place (chain_with reads.rules) reads.chains chain here (sym same ∙ at) in
       let f = reads.filter_is in
       let (words, line) = line_of_chain f.inside.chain_lines reads.chains f.inside.declares d (contains_at reads.chains chain d there) in
       let names : d.name ≡ name = ap (λ (h : Chain (Prim_ W)). h.name) is ∙ named in

@@ -1,52 +1,58 @@
--- A chain is refused a matrix for one cause at most, and not where it has one.
-use Rattle.std.proofs.Common.{◌≡◌, ◌⊎◌, ◌<◌, ℕ, length, refl, inl, inr, arith}
+-- When a matrix is refused.
+use Rattle.std.proofs.Common.{◌≡◌, ◌⊎◌, ◌<◌, ◌≤◌, ℕ, refl, inl, inr, arith}
 use Rattle.primitives.specs.declared.prim.Prim_.{Prim_}
 use Rattle.fw_rule.specs.declared.rule.Dump.{Dump}
-use Rattle.closure.specs.declared.sides.Side.{Side}
-use Rattle.simple_filter.specs.Closed.{Refuses}
-use Rattle.simple_filter.specs.Hidden.{hidden}
+use Rattle.fw_rule.specs.Walk.{hidden_literal}
+use Rattle.fw_rule.specs.declared.side.Side.{Side}
+use Rattle.simple_filter.specs.Hidden.{hidden, hides}
 use Rattle.simple_filter.specs.declared.hiding.Hide.{Hide}
 use Rattle.simple_filter.specs.declared.refusal.Kind.{Kind}
 use Rattle.simple_filter.specs.declared.refusal.Kind.TheVariants as kind
 use Rattle.simple_filter.specs.declared.refusal.Refusal.{Refusal}
-use Rattle.service_matrix.specs.Refusals.{HasAddressBoundaries, HasFewAtoms, IsAddressSet, IsClosed, RefusesMatrix}
+use Rattle.service_matrix.specs.Refusals.{HasFewAtoms, IsAddressSet, RefusesMatrix}
+use Rattle.fffuu_run.specs.Filters.{IsClosingOver}
+use Rattle.fffuu_run.specs.Matrices.{IsMatrixOver}
+use Rattle.fffuu_run.specs.Questions.{Comes, IsWithin, order_of}
 use Rattle.fffuu_run.proofs.BoundaryLemmas.{one_count}
-use Rattle.fffuu_run.proofs.ChainCauses.{OneRule}
-use Rattle.fffuu_run.proofs.ClosedCauses.{loop_there, none_more, one_more}
-use Rattle.fffuu_run.proofs.HiddenRules.{one_hidden, within}
-use Rattle.fffuu_run.proofs.Told.{IsAlone, IsCause, NoneComes}
+use Rattle.fffuu_run.proofs.Closings.{closing_comes, closing_front, closing_within}
+use Rattle.fffuu_run.proofs.HiddenRules.{comes_from, within_from}
+use Rattle.fffuu_run.proofs.Limits.{comes_too, last_comes, within_too}
 
 module _ {W : ℕ} (side : Side) (dump : Dump (Prim_ W)) (chain : ℕ) where
   abbrev nameless : Dump (Prim_ W)
   nameless = hidden Hide.BothNames dump
 
-  abbrev HasManyAtoms : Type 0
-  HasManyAtoms = IsClosed nameless chain side × ((count : ℕ) × HasAddressBoundaries nameless chain count × (4096 < count))
+  abbrev IsOver : Kind → Type 0
+  IsOver = IsMatrixOver side dump chain
 
-  parted : (a : Refusal) → IsCause a → RefusesMatrix side dump chain a → ((a ≡ Refusal.Limit Kind.Atoms) × HasManyAtoms) ⊎ Refuses nameless chain side a
-  parted (Refusal.Unsupported line n) ca p = inr p
-  parted (Refusal.Loop c) ca p = inr p
-  parted (Refusal.Limit kind.Depth) ca p = inr p
-  parted (Refusal.Limit kind.Nodes) ca p = inr p
-  parted (Refusal.Limit kind.Literals) ca p = inr p
-  parted (Refusal.Limit kind.Boxes) ca p = inr p
-  parted (Refusal.Limit kind.Rules) ca p = inr p
-  parted (Refusal.Limit kind.Lines) ca p = inr p
-  parted (Refusal.Limit kind.Atoms) ca p = inl (refl, p)
-  parted (Refusal.Limit kind.Regions) ca p = inr p
-  parted (Refusal.Limit kind.Visits) ca p = inr p
-  parted Refusal.Memory ca p = absurd ca
+  atoms_to : (k : Kind) → IsClosingOver nameless chain side k → IsOver k
+  atoms_to kind.Atoms over = absurd over
+  atoms_to k over = over
 
-  pub one_refused_matrix : OneRule dump → IsAlone (RefusesMatrix side dump chain)
-  one_refused_matrix one =
-      one_more nameless chain side Kind.Atoms HasManyAtoms (RefusesMatrix side dump chain) parted (one_hidden Hide.BothNames dump one) (λ over. over.0)
+  atoms_front : (k : Kind) → IsClosingOver nameless chain side k → order_of k < 6
+  atoms_front k over = omega (arith, closing_front nameless chain side k over)
 
-  pub none_refused_matrix : HasFewAtoms side dump chain → NoneComes (RefusesMatrix side dump chain)
-  none_refused_matrix (closed, (count, has, few)) =
-      none_more nameless chain side Kind.Atoms HasManyAtoms (RefusesMatrix side dump chain) parted closed.0 closed.1
-      (λ over. let (other, has', many) = over.1 in
-      omega (arith, one_count W (IsAddressSet nameless chain) count other has has', few, many))
+  atoms_parted : (k : Kind) → IsOver k → (k ≡ kind.Atoms) ⊎ IsClosingOver nameless chain side k
+  atoms_parted kind.Atoms over = inl refl
+  atoms_parted k over = inr over
 
-  -- a chain that calls itself is one of the dump
-  pub looped_there : (c : ℕ) → RefusesMatrix side dump chain (Refusal.Loop c) → c < length dump.chains
-  looped_there c r = within Hide.BothNames dump c (loop_there nameless chain side c r)
+  closing_refuses : (a : Refusal) → Comes nameless chain (IsClosingOver nameless chain side) a → Comes nameless chain IsOver a
+  closing_refuses = comes_too nameless chain (IsClosingOver nameless chain side) IsOver kind.Atoms atoms_to atoms_front atoms_parted
+
+  found : (a : Refusal) → RefusesMatrix side dump chain a → Comes nameless chain IsOver a
+  found (Refusal.Limit kind.Atoms) (closed, many) =
+      last_comes nameless chain (IsClosingOver nameless chain side) IsOver kind.Atoms atoms_to atoms_front atoms_parted
+      (closing_within nameless chain side closed.0 closed.1) many
+  found (Refusal.Limit k) p = closing_refuses (Refusal.Limit k) (closing_comes nameless chain side (Refusal.Limit k) p)
+  found (Refusal.Unsupported line name) p = p
+  found (Refusal.Loop c) p = p
+  found Refusal.Memory p = tt
+
+  pub matrix_comes : (a : Refusal) → RefusesMatrix side dump chain a → Comes dump chain IsOver a
+  matrix_comes a p = comes_from (hidden_literal (hides Hide.BothNames)) dump chain IsOver a (found a p)
+
+  pub matrix_within : HasFewAtoms side dump chain → IsWithin dump chain IsOver
+  matrix_within (closed, (count, has, few)) = within_from (hidden_literal (hides Hide.BothNames)) dump chain IsOver
+      (within_too nameless chain (IsClosingOver nameless chain side) IsOver kind.Atoms atoms_to atoms_front atoms_parted
+      (closing_within nameless chain side closed.0 closed.1)
+      (λ over. let (other, has', many) = over in omega (arith, one_count W (IsAddressSet nameless chain) count other has has', few, many)))

@@ -1,6 +1,7 @@
 -- The names in the rules of a closed chain can be printed, since those of its dump can.
 use Rattle.std.proofs.Common.{◌≡◌, ◌⊎◌, ℕ, zero, suc, List, [], ◌∷◌, All, Contains, inl, inr, arith, sym, subst}
 use Rattle.std.specs.List.{AllByRecursion}
+use Rattle.basics.proofs.Lists.{each_weaker}
 use Rattle.std.proofs.lemmas.List.Elements.{All-contains, All-from_recursion}
 use Rattle.name_set.specs.declared.pattern.Pattern.{Pattern}
 use Rattle.name_set.specs.declared.set.NameSet.{NameSet}
@@ -20,10 +21,6 @@ use Rattle.dump_read.specs.Answers.{IsPrintableDump}
 use Rattle.printed_text.specs.Names.{ArePrintableNames, HasPrintableNames}
 use Rattle.fw_rule.proofs.Ends.{contains_at}
 use Rattle.fffuu_run.proofs.DumpLemmas.{contains_none}
-
-each_weaker : {X : Type 0} (Q R : X → Type 0) → ((x : X) → Q x → R x) → (xs : List X) → AllByRecursion Q xs → AllByRecursion R xs
-each_weaker Q R f [] each = tt
-each_weaker Q R f (x ∷ xs) each = (f x each.0, each_weaker Q R f xs each.1)
 
 of_one : (own pattern : Pattern) → IsPrintable own → Contains (own ∷ []) pattern → IsPrintable pattern
 of_one own pattern h (zero, below, is) = subst IsPrintable is h

@@ -13,84 +13,18 @@ use Rattle.primitives.specs.declared.prim.Prim_.{Prim_}
 use Rattle.primitives.specs.Holds.{IsValid}
 use Rattle.fw_rule.specs.declared.rule.Dump.{Dump}
 use Rattle.fw_rule.specs.declared.rule.Verdict.{Verdict}
-use Rattle.box_norm.specs.declared.cube.Cube.{Cube}
 use Rattle.box_norm.specs.declared.cube.SimpleRule.{SimpleRule}
-use Rattle.box_norm.specs.Cubes.{holds_cube}
-use Rattle.box_norm.specs.Overlaps.{and_of, holds_some}
-use Rattle.box_norm.proofs.OverlapLaws.{and_holds}
-use Rattle.region_cut.specs.Least.{AreApart, IsLeastPacket}
-use Rattle.region_cut.specs.Search.{FindsNone, HasManyRegions, IsFound}
 use Rattle.request.specs.declared.types.Claim.{Claim}
-use Rattle.simple_filter.specs.declared.refusal.Kind.{Kind}
-use Rattle.simple_filter.specs.declared.refusal.Refusal.{Refusal}
 use Rattle.spoof_check.specs.declared.answers.Spoof.{Spoof}
-use Rattle.spoof_check.specs.Refusals.{IsShown, RefusesSpoof}
+use Rattle.spoof_check.specs.Refusals.{IsShown}
 use Rattle.spoof_check.specs.Verdicts.{HoldsWhole, IsForged, IsRight, IsSearched, IsTooLong}
-use Rattle.fffuu_run.specs.Spoofing.{AreVerdicts, HasValidPacket, IsVerdict, RefusesVerdicts, set_of, verdict_line}
+use Rattle.fffuu_run.specs.Spoofing.{AreVerdicts, HasValidPacket, IsVerdict, set_of, verdict_line}
 
-head_same : {A : Type 0} (a b : A) (xs ys : List A) → a ∷ xs ≡ b ∷ ys → a ≡ b
-head_same a b xs ys e = cc
-
-tail_same : {A : Type 0} (a b : A) (xs ys : List A) → a ∷ xs ≡ b ∷ ys → xs ≡ ys
-tail_same a b xs ys e = cc
-
--- a front of a list ends before an item, or past it
-abbrev Ends : {A : Type 0} → List A → A → List A → Type 0
-Ends {A} before item front = ((more : List A) × (before ≡ front ++ more)) ⊎ ((more : List A) × (front ≡ before ++ item ∷ more))
-
-longer : {A : Type 0} (a b : A) (before front : List A) (item : A) → a ≡ b → Ends before item front → Ends (a ∷ before) item (b ∷ front)
-longer a b before front item same ends = elim ends [
-  | inl (more, is) ↦ inl (more, cc)
-  | inr (more, is) ↦ inr (more, cc)
-]
-
-two_splits : {A : Type 0} (before : List A) (item : A) (after front back : List A) → before ++ item ∷ after ≡ front ++ back → Ends before item front
-two_splits before item after [] back is = inl (before, refl)
-two_splits [] item after (f ∷ front) back is = inr (front, ap (λ x. x ∷ front) (sym (head_same item f after (front ++ back) is)))
-two_splits (b ∷ before) item after (f ∷ front) back is =
-    longer b f before front item (head_same b f (before ++ item ∷ after) (front ++ back) is)
-    (two_splits before item after front back (tail_same b f (before ++ item ∷ after) (front ++ back) is))
-
-all_here : {A : Type 0} (P : A → Type 0) (passed : List A) (here : A) (rest : List A) → AllByRecursion P (passed ++ here ∷ rest) → P here
-all_here P [] here rest h = h.0
-all_here P (x ∷ passed) here rest h = all_here P passed here rest h.1
-
--- a found packet is in the region and the rule that it is found in
-all_true : (a b : Bool) → a ≡ true → b ≡ true → (a && b) ≡ true
-all_true a b e f = grind (arith, e, f)
-
-least_holds : {W : ℕ} (c : Cube W) (p : Packet) → IsLeastPacket c p → holds_cube c p ≡ true
-least_holds c p l = all_true _ _ l.in_name.1 (all_true _ _ l.out_name.1 (all_true _ _ l.src.0 (all_true _ _ l.dst.0
-    (all_true _ _ l.proto.0 (all_true _ _ l.sport.0 (all_true _ _ l.dport.0 (all_true _ _ l.flags.0 l.state.0)))))))
-
-both_true : (a b s : Bool) → s ≡ (a && b) → s ≡ true → (a ≡ true) × (b ≡ true)
-both_true true true s e h = (refl, refl)
-both_true true false s e h = absurd (grind (arith, e, h))
-both_true false b s e h = absurd (grind (arith, e, h))
-
-module _ {W : ℕ} (region : Cube W) (rules : List (SimpleRule W)) where
-  none_within : FindsNone region rules → HasManyRegions region rules → ⊥
-  none_within none long = omega (arith, none.few long.before long.after long.whole, long.many)
-
-  found_within : (p : Packet) → IsValid W p → IsFound region rules p → HasManyRegions region rules → ⊥
-  found_within p valid f long = elim (two_splits f.before f.rule f.after long.before long.after (sym f.whole ∙ long.whole)) [
-    | inl (more, is) ↦ omega (arith, f.few long.before more is, long.many)
-    | inr (more, is) ↦
-        let nothing = long.nothing_before f.before more f.rule is f.accepts in
-        let apart = all_here (λ (c : Cube W). AreApart c f.rule.cube) f.passed f.here f.rest (subst (AllByRecursion (λ (c : Cube W). AreApart c f.rule.cube)) f.regions nothing) in
-        let inside = both_true (holds_cube f.here p) (holds_cube f.rule.cube p) (holds_some (and_of f.here f.rule.cube) p) (and_holds f.here f.rule.cube p valid)
-        (ap (λ o. holds_some o p) f.common_is ∙ least_holds f.common p f.least) in
-        apart p valid inside.0 inside.1
-  ]
-
--- a search that answers, with a valid packet, isn't too long
-pub searched_within : {W : ℕ} (rules : List (SimpleRule W)) (policy : Verdict) (name : List ℕ) (inside : List Range) (verdict : Spoof) → HasValidPacket W verdict
+-- a search that answers isn't too long
+pub searched_within : {W : ℕ} (rules : List (SimpleRule W)) (policy : Verdict) (name : List ℕ) (inside : List Range) (verdict : Spoof)
     → IsSearched rules policy name inside verdict → IsTooLong rules policy name inside → ⊥
-searched_within rules policy name inside Spoof.Holds valid searched long = elim searched [
-  | inl all ↦ long.0 all
-  | inr none ↦ none_within _ _ none long.1
-]
-searched_within rules policy name inside (Spoof.Violated p) valid searched long = found_within _ _ p valid searched.1 long.1
+searched_within rules policy name inside Spoof.Holds searched long = elim searched [ inl all ↦ long.0 all | inr found ↦ found.1 long.1 ]
+searched_within rules policy name inside (Spoof.Violated p) searched long = (searched.1).1 long.1
 
 -- one range more
 pub no_range : (w : ℕ) → IsWidth w → [] ≡ set_of w []
@@ -137,10 +71,6 @@ next_range w width ranges i d below set one next is one_is next_is =
     ∙ one_more_range w width (take i ranges) (get_or ranges i d) ∙ ap (set_of w) (sym (take_next ranges i d below))
 
 module _ {W : ℕ} (dump : Dump (Prim_ W)) (chain : ℕ) where
-  pub valid_packet : (name : List ℕ) (inside : List Range) (verdict : Spoof) → IsRight dump chain name inside verdict → HasValidPacket W verdict
-  valid_packet name inside Spoof.Holds right = tt
-  valid_packet name inside (Spoof.Violated p) right = right.0.valid
-
   -- one verdict more
   verdicts_more : (text_of : ℕ → List ℕ) (claims : List Claim) (written : List ℕ) (claim : Claim) (verdict : Spoof) → AreVerdicts dump chain text_of claims written
       → IsVerdict dump chain claim verdict → AreVerdicts dump chain text_of (claims ++ claim ∷ []) (written ++ verdict_line text_of claim.name verdict)
@@ -168,12 +98,3 @@ module _ {W : ℕ} (dump : Dump (Prim_ W)) (chain : ℕ) where
         subst (λ (t : List ℕ). AreVerdicts dump chain text_of (take (i + 1) claims) t) (sym text)
         (subst (λ (cs : List Claim). AreVerdicts dump chain text_of cs (written ++ verdict_line text_of claim.name verdict)) (sym front)
         (verdicts_more text_of (take i claims) written claim verdict are one))
-
-    -- a claim whose search is too long refuses all
-    pub refused_one : (refusal : Refusal) → (refusal ≡ Refusal.Memory) ⊎ (refusal ≡ Refusal.Limit Kind.Regions) → RefusesSpoof dump chain name inside refusal
-        → RefusesVerdicts dump chain claims refusal
-    refused_one refusal which refused = elim which [
-      | inl is ↦ subst (RefusesVerdicts dump chain claims) (sym is) tt
-      | inr is ↦ subst (RefusesVerdicts dump chain claims) (sym is)
-          (claim, (i, below, sym at), along (λ n s. RefusesSpoof dump chain n s (Refusal.Limit Kind.Regions)) (subst (RefusesSpoof dump chain name inside) is refused))
-    ]

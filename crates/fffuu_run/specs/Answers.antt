@@ -3,14 +3,14 @@ use Rattle.std.specs.Prelude.{ℕ, List, Bool, true, false}
 use Rattle.std.specs.Net.Text.{hex_groups_text, ipv4_text}
 use Rattle.addr_text.specs.Digits.{digits_of}
 use Rattle.addr_text.specs.Grammar.{IsIpv4, IsIpv6}
-use Rattle.closure.specs.declared.sides.Side.{Side}
+use Rattle.fw_rule.specs.declared.side.Side.{Side}
 use Rattle.request.specs.declared.types.Mode.{Mode}
 use Rattle.request.specs.declared.types.Mode.TheVariants as mode
 use Rattle.request.specs.declared.types.Request.{Request}
 use Rattle.fffuu_run.specs.Checks.{Checks, RefusesCheck}
-use Rattle.fffuu_run.specs.Explanations.{Explains, RefusesExplain}
+use Rattle.fffuu_run.specs.Explanations.{Explanations, RefusesExplanation}
 use Rattle.fffuu_run.specs.Filters.{Filters, RefusesFilter}
-use Rattle.fffuu_run.specs.Loads.{Loads, RefusesLoads}
+use Rattle.fffuu_run.specs.Loads.{Loads, RefusesLoad}
 use Rattle.fffuu_run.specs.Matrices.{Matrices, RefusesMatrices}
 use Rattle.fffuu_run.specs.Spoofing.{RefusesSpoofs, Spoofs}
 use Rattle.fffuu_run.specs.declared.status.Status.{Status}
@@ -31,7 +31,7 @@ module _ (W : ℕ) (Reads : List ℕ → ℕ → Type 0) (text_of : ℕ → List
   IsOutput mode.Lower name text written = Filters W Reads text_of Side.Lower name text written
   IsOutput (mode.Matrix service side) name text written = Matrices W Reads text_of side service name text written
   IsOutput (mode.Spoof claims) name text written = Spoofs W Reads text_of claims name text written
-  IsOutput (mode.Explain p) name text written = Explains W Reads name text p written
+  IsOutput (mode.Explain p) name text written = Explanations W Reads name text p written
   IsOutput (mode.Load n) name text written = Loads ipv4_of name n written
 
   -- why a mode has no output
@@ -41,8 +41,8 @@ module _ (W : ℕ) (Reads : List ℕ → ℕ → Type 0) (text_of : ℕ → List
   RefusesMode mode.Lower name text s = RefusesFilter W Reads text_of Side.Lower name text s
   RefusesMode (mode.Matrix service side) name text s = RefusesMatrices W Reads text_of side service name text s
   RefusesMode (mode.Spoof claims) name text s = RefusesSpoofs W Reads text_of claims name text s
-  RefusesMode (mode.Explain p) name text s = RefusesExplain W Reads name text s
-  RefusesMode (mode.Load n) name text s = RefusesLoads ipv4_of name n s
+  RefusesMode (mode.Explain p) name text s = RefusesExplanation W Reads name text s
+  RefusesMode (mode.Load n) name text s = RefusesLoad ipv4_of name n s
 
 -- the stated output over the addresses of a family, IPv6 ones where it is true
 abbrev pub IsOutputIn : Bool → Mode → List ℕ → List ℕ → List ℕ → Type 0
@@ -57,6 +57,6 @@ RefusesModeIn true m name text s = RefusesMode 128 IsIpv6 ipv6_of m name text s
 abbrev pub IsAnswer : Request → List ℕ → List ℕ → Type 0
 IsAnswer request text written = IsOutputIn request.six request.mode request.chain text written
 
--- the status of a text that has no answer
-abbrev pub Refuses : Request → List ℕ → Status → Type 0
-Refuses request text s = RefusesModeIn request.six request.mode request.chain text s
+-- the status tells why a text has no answer
+abbrev pub IsRefusedAs : Request → List ℕ → Status → Type 0
+IsRefusedAs request text s = RefusesModeIn request.six request.mode request.chain text s

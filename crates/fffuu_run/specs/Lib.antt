@@ -1,12 +1,13 @@
+-- In the order of reading.
+pub mod Questions
 pub mod Counts
 pub mod Checks
-pub mod Questions
-pub mod Explanations
 pub mod Headline
 pub mod Filters
+pub mod Loads
+pub mod Explanations
 pub mod Matrices
 pub mod Spoofing
-pub mod Loads
-pub mod Answers
 pub mod Lines
+pub mod Answers
 pub mod Runs

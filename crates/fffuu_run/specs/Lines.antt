@@ -8,6 +8,7 @@ use Rattle.simple_filter.specs.declared.refusal.Kind.TheVariants as kind
 use Rattle.fffuu_run.specs.declared.telling.Line.{Line}
 use Rattle.fffuu_run.specs.declared.telling.Line.TheVariants as line
 
+-- the number that the program ends with
 abbrev pub code_of : Status → ℕ
 code_of status.Ok = 0
 code_of status.Usage = 1
@@ -23,16 +24,17 @@ code_of (status.CallLoop name) = 10
 code_of (status.Limit k) = 11
 code_of status.Memory = 12
 
-abbrev pub word_of : Kind → List ℕ
-word_of kind.Depth = codes "depth"
-word_of kind.Nodes = codes "nodes"
-word_of kind.Literals = codes "literals"
-word_of kind.Boxes = codes "boxes"
-word_of kind.Rules = codes "rules"
-word_of kind.Lines = codes "lines"
-word_of kind.Atoms = codes "atoms"
-word_of kind.Regions = codes "regions"
-word_of kind.Visits = codes "visits"
+-- the word of a limit
+abbrev pub limit_word : Kind → List ℕ
+limit_word kind.Depth = codes "depth"
+limit_word kind.Nodes = codes "nodes"
+limit_word kind.Literals = codes "literals"
+limit_word kind.Boxes = codes "boxes"
+limit_word kind.Rules = codes "rules"
+limit_word kind.Lines = codes "lines"
+limit_word kind.Atoms = codes "atoms"
+limit_word kind.Regions = codes "regions"
+limit_word kind.Visits = codes "visits"
 
 -- a line that the program writes of itself
 abbrev pub told : List ℕ → List ℕ
@@ -51,7 +53,7 @@ line_of asked (status.UndefinedChain n) = told (codes "line " ++ decimal n ++ co
 line_of asked status.NoChain = told (codes "no chain " ++ shown_name asked)
 line_of asked (status.Unsupported n name) = told (codes "line " ++ decimal n ++ codes ": unsupported target " ++ shown_name name)
 line_of asked (status.CallLoop name) = told (codes "call loop through " ++ shown_name name)
-line_of asked (status.Limit k) = told (codes "limit " ++ word_of k)
+line_of asked (status.Limit k) = told (codes "limit " ++ limit_word k)
 line_of asked status.Memory = told (codes "out of memory")
 
 -- a status whose line has a number or a name in it, and so takes memory

@@ -4,13 +4,18 @@ use Rattle.std.specs.List.{count_by, sum_by}
 use Rattle.interval_set.specs.declared.set.Range.{Range}
 use Rattle.primitives.specs.declared.prim.Prim_.{Prim_}
 use Rattle.fw_rule.specs.declared.rule.Dump.{Dump}
-use Rattle.closure.specs.declared.sides.Side.{Side}
+use Rattle.fw_rule.specs.declared.side.Side.{Side}
 use Rattle.fw_text.specs.Ranges.{ranges_text}
 use Rattle.service_packet.specs.declared.service.Service.{Service}
 use Rattle.service_matrix.specs.declared.table.Matrix.{Matrix}
 use Rattle.service_matrix.specs.Matrices.{IsCoarsest, IsMatrix}
 use Rattle.service_matrix.specs.Services.{Edge, HoldsOfAllNames}
-use Rattle.service_matrix.specs.Refusals.{HasFewAtoms, RefusesMatrix}
+use Rattle.ip_partition.specs.Boundaries.{HasManyBoundaries}
+use Rattle.service_matrix.specs.Refusals.{IsAddressSet}
+use Rattle.simple_filter.specs.Hidden.{hidden}
+use Rattle.simple_filter.specs.declared.hiding.Hide.{Hide}
+use Rattle.simple_filter.specs.declared.refusal.Kind.{Kind}
+use Rattle.fffuu_run.specs.Filters.{IsClosingOver}
 use Rattle.fffuu_run.specs.Questions.{Answers, RefusesQuestion}
 use Rattle.fffuu_run.specs.declared.status.Status.{Status}
 
@@ -49,22 +54,30 @@ module _ (text_of : ℕ → List ℕ) where
       (codes "classes " ++ (decimal (length classes) ++ 10 ∷ [])) ++ (class_lines 0 classes
       ++ ((codes "edges " ++ (decimal (edge_count edges) ++ 10 ∷ [])) ++ edge_lines 0 edges))
 
-module _ {W : ℕ} (text_of : ℕ → List ℕ) (side : Side) (service : Service) where
-  -- this is the text of the service's matrix in the chain: its classes are those of all addresses that its edges can't tell apart
-  pub record IsMatrixText (dump : Dump (Prim_ W)) (chain : ℕ) (written : List ℕ) : Type 0 where
+module _ {W : ℕ} (text_of : ℕ → List ℕ) (side : Side) (service : Service) (dump : Dump (Prim_ W)) (chain : ℕ) where
+  -- this is the text of the service's matrix in the chain: its classes are those of all addresses that its edges can't
+  -- tell apart
+  pub record IsMatrixText (written : List ℕ) : Type 0 where
     pub matrix : Matrix W
     pub right : IsMatrix (Edge side dump chain service) matrix
     pub coarsest : IsCoarsest W (Edge side dump chain service) matrix.classes
     pub names : HoldsOfAllNames side dump chain service matrix
-    pub few : HasFewAtoms side dump chain
     pub written_is : written ≡ matrix_text text_of matrix.classes matrix.edges
 
--- `Reads` says which text is one of which address of `W` bits
-module _ (W : ℕ) (Reads : List ℕ → ℕ → Type 0) (text_of : ℕ → List ℕ) (side : Side) (service : Service) where
-  -- the text is a dump with a chain of this name and a policy, and this is the text of the service's matrix in it
-  abbrev pub Matrices : List ℕ → List ℕ → List ℕ → Type 0
-  Matrices name text written = Answers W Reads name text (λ dump chain. IsMatrixText text_of side service dump chain written)
+module _ {W : ℕ} (side : Side) (dump : Dump (Prim_ W)) (chain : ℕ) where
+  -- with the tests of names hidden, the rewriting is too large, or the boundaries of address sets are too many
+  abbrev pub IsMatrixOver : Kind → Type 0
+  IsMatrixOver Kind.Atoms = HasManyBoundaries W (IsAddressSet (hidden Hide.BothNames dump) chain)
+  IsMatrixOver kind = IsClosingOver (hidden Hide.BothNames dump) chain side kind
 
-  -- the text is no dump, or its chain of this name has no matrix
-  abbrev pub RefusesMatrices : List ℕ → List ℕ → Status → Type 0
-  RefusesMatrices name text s = RefusesQuestion W Reads name text (λ dump chain. RefusesMatrix side dump chain) s
+-- `Reads` says which text is one of which address of `W` bits
+module _ (W : ℕ) (Reads : List ℕ → ℕ → Type 0) (text_of : ℕ → List ℕ) (side : Side) (service : Service)
+    (name text : List ℕ) where
+  -- this is the text of the service's matrix in the chain of this name in the dump that the text is
+  abbrev pub Matrices : List ℕ → Type 0
+  Matrices written = Answers W Reads name text (λ dump chain. IsMatrixOver side dump chain)
+      (λ dump chain. IsMatrixText text_of side service dump chain written)
+
+  -- why there is none
+  abbrev pub RefusesMatrices : Status → Type 0
+  RefusesMatrices s = RefusesQuestion W Reads name text (λ dump chain. IsMatrixOver side dump chain) s

@@ -2,51 +2,53 @@
 use Rattle.std.specs.Prelude.{◌≡◌, ◌<◌, ◌≤◌, ◌+◌, ◌++◌, ◌⊎◌, [], ℕ, List, Option, length}
 use Rattle.std.specs.Io.KnownBytes.{Appends, Consumes, IsAtEnd}
 use Rattle.fw_io.specs.Causes.{Rose}
-use Rattle.request.specs.Requests.{Spells, chain_in}
+use Rattle.limits.specs.declared.TheConstants.{MOST_BYTES}
+use Rattle.request.specs.Requests.{Spells}
 use Rattle.request.specs.declared.types.Mode.{Mode}
 use Rattle.request.specs.declared.types.Mode.TheVariants as mode
 use Rattle.request.specs.declared.types.Request.{Request}
-use Rattle.fffuu_run.specs.Answers.{IsAnswer, Refuses}
+use Rattle.fffuu_run.specs.Answers.{IsAnswer, IsRefusedAs}
 use Rattle.fffuu_run.specs.Lines.{IsBuilt}
 use Rattle.fffuu_run.specs.declared.status.Status.{Status}
 use Rattle.fffuu_run.specs.declared.status.Status.TheVariants as status
 
--- the most bytes of input
-abbrev pub most : ℕ
-most = 16777216
+-- what a source or a sink tells at one moment: the bytes that are left or held, where it tells them, and how often it
+-- has failed
+pub record Device : Type 0 where
+  pub bytes : Option (List ℕ)
+  pub faults : ℕ
 
--- what the source and the sink tell at one moment
+-- the source and the sink
 pub record Devices : Type 0 where
-  pub left : Option (List ℕ)
-  pub read_faults : ℕ
-  pub held : Option (List ℕ)
-  pub write_faults : ℕ
+  pub source : Device
+  pub sink : Device
 
 -- the text is all that the source gave, up to its end
 pub record ReadsWhole (old new : Option (List ℕ)) (text : List ℕ) : Type 0 where
   pub taken : Consumes old new text
   pub end : IsAtEnd new
-  pub short : length text ≤ most
+  pub short : length text ≤ MOST_BYTES
 
 -- a mode that reads its text
 abbrev pub IsRead : Mode → Type 0
 IsRead (mode.Load n) = ⊥
 IsRead m = Unit {0}
 
--- what is known of the text that a mode answers to: it is all that the source gave; a load leaves the source as it was, and looks at no text
-abbrev pub Takes : Mode → Option (List ℕ) → Option (List ℕ) → ℕ → ℕ → List ℕ → Type 0
-Takes (mode.Load n) old new before now text = (new ≡ old) × (now ≡ before)
-Takes m old new before now text = ReadsWhole old new text
+-- the mode answers to this text: it is all that the source gave; a load leaves the source as it was, and looks at no
+-- text
+abbrev pub AnswersTo : Mode → Device → Device → List ℕ → Type 0
+AnswersTo (mode.Load n) old new text = (new.bytes ≡ old.bytes) × (new.faults ≡ old.faults)
+AnswersTo m old new text = ReadsWhole old.bytes new.bytes text
 
 -- a text that is one byte too long was taken
 pub record ReadsTooMuch (old new : Option (List ℕ)) (text : List ℕ) : Type 0 where
   pub taken : Consumes old new text
-  pub long : length text ≡ most + 1
+  pub long : length text ≡ MOST_BYTES + 1
 
 -- the sink holds what it held, and no fault came
 pub record KeepsSink (old new : Devices) : Type 0 where
-  pub held : new.held ≡ old.held
-  pub faults : new.write_faults ≡ old.write_faults
+  pub held : new.sink.bytes ≡ old.sink.bytes
+  pub faults : new.sink.faults ≡ old.sink.faults
 
 -- less than the whole text was appended
 pub record AppendsPart (old new : Option (List ℕ)) (text sent rest : List ℕ) : Type 0 where
@@ -55,23 +57,27 @@ pub record AppendsPart (old new : Option (List ℕ)) (text sent rest : List ℕ)
   pub proper : 0 < length rest
 
 -- a front of the line was written, all of it where no write failed
-pub record WritesLine (old new : Option (List ℕ)) (before now : ℕ) (line sent rest : List ℕ) : Type 0 where
-  pub sent_is : Appends old new sent
+pub record WritesLine (old new : Device) (line sent rest : List ℕ) : Type 0 where
+  pub sent_is : Appends old.bytes new.bytes sent
   pub split : line ≡ sent ++ rest
-  pub whole : (Rose before now → ⊥) → rest ≡ []
+  pub whole : (Rose old.faults new.faults → ⊥) → rest ≡ []
 
 -- what a status says of a run of a request
-abbrev pub Works : Request → Devices → Devices → Status → Type 0
-Works request old new status.Ok = (text written : List ℕ) × Takes request.mode old.left new.left old.read_faults new.read_faults text
-    × IsAnswer request text written × Appends old.held new.held written
-Works request old new status.Usage = ⊥
-Works request old new status.ReadFault = IsRead request.mode × Rose old.read_faults new.read_faults × KeepsSink old new
-Works request old new status.InputTooLong = IsRead request.mode × (text : List ℕ) × ReadsTooMuch old.left new.left text × KeepsSink old new
-Works request old new status.WriteFault = (text written sent rest : List ℕ) × Takes request.mode old.left new.left old.read_faults new.read_faults text
-    × IsAnswer request text written × Rose old.write_faults new.write_faults
-    × AppendsPart old.held new.held written sent rest
-Works request old new status.Memory = KeepsSink old new
-Works request old new s = (text : List ℕ) × Takes request.mode old.left new.left old.read_faults new.read_faults text × Refuses request text s × KeepsSink old new
+abbrev pub IsRunOf : Request → Devices → Devices → Status → Type 0
+IsRunOf request old new status.Ok = (text written : List ℕ) × AnswersTo request.mode old.source new.source text
+    × IsAnswer request text written × Appends old.sink.bytes new.sink.bytes written
+IsRunOf request old new status.Usage = ⊥
+IsRunOf request old new status.ReadFault =
+    IsRead request.mode × Rose old.source.faults new.source.faults × KeepsSink old new
+IsRunOf request old new status.InputTooLong = IsRead request.mode
+    × (text : List ℕ) × ReadsTooMuch old.source.bytes new.source.bytes text × KeepsSink old new
+IsRunOf request old new status.WriteFault = (text written sent rest : List ℕ)
+    × AnswersTo request.mode old.source new.source text
+    × IsAnswer request text written × Rose old.sink.faults new.sink.faults
+    × AppendsPart old.sink.bytes new.sink.bytes written sent rest
+IsRunOf request old new status.Memory = KeepsSink old new
+IsRunOf request old new s = (text : List ℕ) × AnswersTo request.mode old.source new.source text
+    × IsRefusedAs request text s × KeepsSink old new
 
 -- the statuses with which something may have been written
 abbrev pub Writes : Status → Type 0
@@ -80,28 +86,31 @@ Writes status.WriteFault = Unit {0}
 Writes s = ⊥
 
 -- what a status says of a run
-abbrev pub Ends : List (List ℕ) → Devices → Devices → Status → Type 0
-Ends words old new status.Usage = ((request : Request) → Spells words request → ⊥) × (new ≡ old)
-Ends words old new status.Memory = KeepsSink old new
-Ends words old new s = (request : Request) × Spells words request × Works request old new s
-
--- the name of the chain that the words ask about
-abbrev pub asked_in : List (List ℕ) → List ℕ
-asked_in words = chain_in words
-
--- the one status, or in a mode that reads a read that failed, or want of memory
-abbrev pub IsStatus : Mode → Status → Status → Type 0
-IsStatus m first s = (s ≡ first) ⊎ (IsRead m × (s ≡ status.ReadFault)) ⊎ (s ≡ status.Memory)
+abbrev pub IsRun : List (List ℕ) → Devices → Devices → Status → Type 0
+IsRun words old new status.Usage = ((request : Request) → Spells words request → ⊥) × (new ≡ old)
+IsRun words old new status.Memory = KeepsSink old new
+IsRun words old new s = (request : Request) × Spells words request × IsRunOf request old new s
 
 -- the text isn't too long for a mode that reads it
 abbrev pub IsShort : Mode → List ℕ → Type 0
-IsShort m text = IsRead m → length text ≤ most
+IsShort m text = IsRead m → length text ≤ MOST_BYTES
 
--- The status where words spell this request, and this text is all that the source has.
-pub record IsStatusOf (request : Request) (text : List ℕ) (s : Status) : Type 0 where
-  pub too_long : IsRead request.mode → most < length text → IsStatus request.mode status.InputTooLong s
-  pub refused : IsShort request.mode text → (cause : Status) → Refuses request text cause → IsStatus request.mode cause s
-  pub ok : IsShort request.mode text → ((cause : Status) → Refuses request text cause → ⊥) → IsStatus request.mode status.Ok s ⊎ (s ≡ status.WriteFault)
+-- the status that is due where this text is all that the source has: the text is too long, or else it has no answer, or
+-- else all is well
+abbrev pub IsDue : Request → List ℕ → Status → Type 0
+IsDue request text status.InputTooLong = IsRead request.mode × (MOST_BYTES < length text)
+IsDue request text status.Ok = IsShort request.mode text × ((cause : Status) → IsRefusedAs request text cause → ⊥)
+IsDue request text cause = IsShort request.mode text × IsRefusedAs request text cause
+
+-- what stands in place of a status that is due: itself, a write that failed where all is well, a read that failed in a
+-- mode that reads, or want of memory
+abbrev pub StandsFor : Mode → Status → Status → Type 0
+StandsFor m due s = (s ≡ due) ⊎ ((due ≡ status.Ok) × (s ≡ status.WriteFault)) ⊎ (IsRead m × (s ≡ status.ReadFault))
+    ⊎ (s ≡ status.Memory)
+
+-- the status where words spell this request, and this text is all that the source has
+abbrev pub IsStatusOf : Request → List ℕ → Status → Type 0
+IsStatusOf request text s = (due : Status) → IsDue request text due → StandsFor request.mode due s
 
 -- the status, or want of memory in place of one whose line takes memory
 abbrev pub IsReported : Status → Status → Type 0

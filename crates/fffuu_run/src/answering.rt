@@ -1,7 +1,8 @@
 ghost use Rattle.std.specs.Prelude.{◌≡◌, ◌≤◌, ◌⊎◌, ℕ, IfOk, IfErr, length};
 ghost use Rattle.interval_set.specs.Numbers.{IsWidth};
+ghost use Rattle.limits.specs.declared.TheConstants.{MOST_BYTES};
 ghost use Rattle.request.specs.Requests.{HasBounds, width_of};
-ghost use Rattle.fffuu_run.specs.Answers.{IsAnswer, IsOutput, Refuses, RefusesMode};
+ghost use Rattle.fffuu_run.specs.Answers.{IsAnswer, IsOutput, IsRefusedAs, RefusesMode};
 
 use crate::Status;
 use crate::checking::check_text;
@@ -11,7 +12,7 @@ use crate::loading::load_summary;
 use crate::matrices::matrix_text;
 use crate::spoofing::spoof_text;
 use addr_text::{Family, V4, V6};
-use closure::Side;
+use fw_rule::Side;
 use request::{Mode, Request};
 use std::alloc::Global;
 
@@ -24,7 +25,7 @@ fn output<F: Family<W>, const W: u32>(
     requires width { IsWidth W }
     requires family { width_of request.now.six ≡ W }
     requires bounds { HasBounds request.now.six request.now.mode }
-    requires size { length text.now ≤ 16777216 }
+    requires size { length text.now ≤ MOST_BYTES }
     ensures ok { IfOk result (λ written. IsOutput W F.Reads F.text_of request.now.mode request.now.chain text.now written.items) }
     ensures refused { IfErr result (λ s. (s ≡ Status.Memory) ⊎ RefusesMode W F.Reads F.text_of request.now.mode request.now.chain text.now s) }
 {
@@ -46,10 +47,10 @@ fn output<F: Family<W>, const W: u32>(
 ///
 /// The status of a text that has none, from `Malformed` to `Limit`, or `Memory`.
 pub fn answer(alloc: Global, request: &Request, text: &[u8]) -> Result<Vec<u8>, Status>
-    requires size { length text.now ≤ 16777216 }
+    requires size { length text.now ≤ MOST_BYTES }
     requires bounds { HasBounds request.now.six request.now.mode }
     ensures ok { IfOk result (λ written. IsAnswer request.now text.now written.items) }
-    ensures refused { IfErr result (λ s. (s ≡ Status.Memory) ⊎ Refuses request.now text.now s) }
+    ensures refused { IfErr result (λ s. (s ≡ Status.Memory) ⊎ IsRefusedAs request.now text.now s) }
 {
     if request.six {
         output::<V6, 128>(alloc, request, text)

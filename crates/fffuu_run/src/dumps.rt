@@ -4,13 +4,13 @@ ghost use Rattle.dump_grammar.specs.Reads.{IsDump};
 ghost use Rattle.dump_read.specs.Answers.{IsPrintableDump};
 ghost use Rattle.fw_rule.specs.Calls.{HasRoom};
 ghost use Rattle.interval_set.specs.Numbers.{IsWidth};
-ghost use Rattle.fffuu_run.specs.Headline.{IsChain};
-ghost use Rattle.fffuu_run.specs.Checks.{IsNameOf, RefusesText, asked_chain, is_asked};
+ghost use Rattle.limits.specs.declared.TheConstants.{MOST_BYTES};
+ghost use Rattle.fffuu_run.specs.Questions.{IsNameOf, RefusesText, asked_chain, is_asked};
 
 use crate::Status;
 use addr_text::Family;
 use dump_read::{ReadFault, read_dump};
-use fw_rule::{Chain, Dump, Verdict};
+use fw_rule::{Chain, Dump};
 use match_expr::{Bytes, Primitive};
 use primitives::Prim_;
 use std::alloc::{AllocError, Global};
@@ -21,7 +21,7 @@ pub fn read<F: Family<W>, const W: u32>(
     text: &[u8],
 ) -> Result<Dump<Prim_<W>>, Status>
     requires width { IsWidth W }
-    requires size { length text.now ≤ 16777216 }
+    requires size { length text.now ≤ MOST_BYTES }
     ensures reads { IfOk result (λ dump. IsDump W F.Reads text.now dump) }
     ensures room { IfOk result HasRoom }
     ensures named { IfOk result CallsNameChains }
@@ -49,17 +49,6 @@ pub fn asked<P: Primitive>(dump: &Dump<P>, name: &[u8]) -> Option<usize>
 {
     let chains = dump.chains.as_slice();
     chains.iter().position(|chain| is_asked(chain, name))
-}
-
-/// The policy of the chain of this name.
-pub fn policy_of<P: Primitive>(dump: &Dump<P>, name: &[u8], chain: usize) -> Verdict
-    requires { asked_chain name.now dump.now ≡ Some chain }
-    ensures { IsChain dump.now chain name.now result }
-{
-    match dump.chains.as_slice()[chain].policy {
-        Some(policy) => policy,
-        None => unreachable!(),
-    }
 }
 
 /// The name of a chain that is there.

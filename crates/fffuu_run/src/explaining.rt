@@ -1,20 +1,22 @@
-ghost use Rattle.std.specs.Prelude.{◌≡◌, ◌↔◌, ◌<◌, ◌≤◌, ◌⊎◌, IfErr, length, ◌++◌, ◌∷◌, [], IfOk, codes, decimal};
-ghost use Rattle.fw_rule.specs.Walk.{HasRoom, Settled};
-ghost use Rattle.chain_graph.specs.Results.{IsRanked};
+ghost use Rattle.std.specs.Prelude.{◌≡◌, ◌<◌, ◌≤◌, ◌⊎◌, IfErr, OnOk, length, ◌++◌, ◌∷◌, [], IfOk, codes, decimal};
+ghost use Rattle.fw_rule.specs.Walk.{HasRoom};
+ghost use Rattle.chain_graph.specs.Paths.{CallsNameChains};
+ghost use Rattle.closure.specs.Checked.{HasPolicy};
 ghost use Rattle.interval_set.specs.Numbers.{IsWidth};
-ghost use Rattle.fffuu_run.specs.Explanations.{Explained, Explains, RefusesExplain, both_texts, explanation_text, place_lines};
+ghost use Rattle.limits.specs.declared.TheConstants.{MOST_BYTES};
+ghost use Rattle.fffuu_run.specs.Explanations.{Explained, Explanations, IsExplanationOver, RefusesExplanation, both_texts, explanation_text, place_lines};
+ghost use Rattle.fffuu_run.specs.Questions.{Comes, IsWithin};
 
 use crate::Status;
 use crate::checking::checked;
-use crate::dumps::read;
+use crate::questions::{AskedChain, question, told};
 use addr_text::Family;
-use chain_graph::Ranked;
 use explain::{Explain, ExplainFault, explain};
 use fw_rule::{Dump, Place};
 use fw_text::place_text;
 use match_expr::{List, Primitive};
 use primitives::Packet;
-use simple_filter::Kind;
+use simple_filter::{Kind, Refusal};
 use std::alloc::{AllocError, Global};
 
 // The lines of places.
@@ -76,22 +78,25 @@ fn both<P: Primitive>(
 // The text of the two explanations of a packet: `accept never`, or `accept under` the number of places and a line for each of
 // them, and the same with `drop`. The places are those of the unknown literals that hold in a meaning whose walk has the
 // verdict, in the order in which the walk comes to them. `never` stands exactly where no meaning's walk has it.
-// `Visits` comes exactly where the visits of the chain are more than 16,777,216.
 fn explanations<P: Primitive>(
     alloc: Global,
     dump: &Dump<P>,
-    ranked: &Ranked,
     chain: u32,
     p: &P::Packet,
-) -> Result<Vec<u8>, ExplainFault>
-    requires ranked { IsRanked dump.now chain ranked.now }
-    requires settled { Settled dump.now chain }
+) -> Result<Vec<u8>, Refusal>
+    requires policy { HasPolicy dump.now chain }
     requires room { HasRoom dump.now }
+    requires named { CallsNameChains dump.now }
     ensures ok { IfOk result (λ text. Explained P.meaning dump.now chain p.now text.items) }
-    ensures visits { (result ≡ Err ExplainFault.Visits) ↔ (16777216 < ranked.now.visits) }
+    ensures within { OnOk result (IsWithin dump.now chain (IsExplanationOver dump.now chain)) }
+    ensures refused { IfErr result (Comes dump.now chain (IsExplanationOver dump.now chain)) }
 {
-    let explained = explain(alloc, dump, ranked, chain, p)?;
-    Ok(both(alloc, dump, &explained)?)
+    let ranked = checked(alloc, dump, chain)?;
+    match explain(alloc, dump, &ranked, chain, p) {
+        Ok(explained) => Ok(both(alloc, dump, &explained)?),
+        Err(ExplainFault::Visits) => Err(Refusal::Limit(Kind::Visits)),
+        Err(ExplainFault::Memory) => Err(Refusal::Memory),
+    }
 }
 
 /// Explains a packet in the chain of this name of a text: how it is accepted and how it is dropped.
@@ -102,15 +107,13 @@ pub fn explain_text<F: Family<W>, const W: u32>(
     packet: &Packet,
 ) -> Result<Vec<u8>, Status>
     requires width { IsWidth W }
-    requires size { length text.now ≤ 16777216 }
-    ensures ok { IfOk result (λ written. Explains W F.Reads name.now text.now packet.now written.items) }
-    ensures refused { IfErr result (λ s. (s ≡ Status.Memory) ⊎ RefusesExplain W F.Reads name.now text.now s) }
+    requires size { length text.now ≤ MOST_BYTES }
+    ensures ok { IfOk result (λ written. Explanations W F.Reads name.now text.now packet.now written.items) }
+    ensures refused { IfErr result (λ s. (s ≡ Status.Memory) ⊎ RefusesExplanation W F.Reads name.now text.now s) }
 {
-    let dump = read::<F, W>(alloc, text)?;
-    let ranked = checked(alloc, &dump, name)?;
-    match explanations(alloc, &dump, &ranked, ranked.entry, packet) {
+    let AskedChain { dump, chain, .. } = question::<F, W>(alloc, name, text)?;
+    match explanations(alloc, &dump, chain, packet) {
         Ok(written) => Ok(written),
-        Err(ExplainFault::Visits) => Err(Status::Limit { kind: Kind::Visits }),
-        Err(ExplainFault::Memory) => Err(Status::Memory),
+        Err(refusal) => Err(told(alloc, &dump, refusal)),
     }
 }

@@ -1,66 +1,29 @@
-ghost use Rattle.std.specs.Prelude.{◌≡◌, ◌≤◌, ◌<◌, ◌⊎◌, ℕ, IfOk, IfErr, OnOk, length, true};
+ghost use Rattle.std.specs.Prelude.{◌≡◌, ◌≤◌, ◌<◌, ◌⊎◌, ℕ, IfOk, IfErr, OnOk, Some, length, true};
 ghost use Rattle.interval_set.specs.Numbers.{IsWidth};
 ghost use Rattle.chain_graph.specs.Paths.{CallsNameChains};
-ghost use Rattle.fw_rule.specs.Calls.{HasRoom};
+ghost use Rattle.fw_rule.specs.Walk.{HasRoom, policy_of};
 ghost use Rattle.box_norm.specs.Regular.{EachCube, HasStates, IsRegular};
 ghost use Rattle.dump_grammar.specs.ChainLines.{built_in, is_among};
-ghost use Rattle.dump_print.specs.Sets.{HasSets};
+ghost use Rattle.box_norm.specs.Sets.{HasSets};
 ghost use Rattle.dump_read.specs.Answers.{IsPrintableDump};
-ghost use Rattle.dump_print.specs.Printed.{count_lines, printed};
+ghost use Rattle.dump_print.specs.Printed.{printed};
 ghost use Rattle.simple_filter.specs.Closed.{Accepts, NamesAreKnown};
+ghost use Rattle.limits.specs.declared.TheConstants.{MOST_BYTES};
 ghost use Rattle.fffuu_run.specs.Headline.{IsChain, IsFilterOf};
-ghost use Rattle.fffuu_run.specs.Filters.{Filters, IsFilterText, RefusesFilter, RefusesPrinted};
+ghost use Rattle.fffuu_run.specs.Filters.{Filters, IsFilterOver, IsPrintedFilter, RefusesFilter};
+ghost use Rattle.fffuu_run.specs.Questions.{Comes, IsWithin};
 
 use crate::Status;
 use crate::questions::{AskedChain, question, told};
 use addr_text::Family;
-use box_norm::{Cube, SimpleRule};
-use closure::Side;
+use box_norm::SimpleRule;
 use dump_print::{PrintFault, print};
-use fw_rule::{Dump, Verdict};
+use fw_rule::{Dump, Side, Verdict};
 use primitives::Prim_;
 use printed_filter::means_its_rules;
 use printed_text::is_read_back;
 use simple_filter::{Kind, Refusal, closed};
 use std::alloc::Global;
-
-// The text of a chain with this policy and these rules.
-fn text_of<F: Family<W>, const W: u32>(
-    alloc: Global,
-    name: &[u8],
-    policy: Verdict,
-    rules: &[SimpleRule<W>],
-) -> Result<Vec<u8>, Refusal>
-    requires width { IsWidth W }
-    ensures text { IfOk result (λ text. text.items ≡ printed F.text_of W name.now policy rules.now) }
-    ensures few { OnOk result (count_lines F.text_of W name.now rules.now ≤ 262144) }
-    ensures refused { IfErr result (λ r. (r ≡ Refusal.Memory) ⊎ ((r ≡ Refusal.Limit Kind.Lines) × (262144 < count_lines F.text_of W name.now rules.now))) }
-{
-    match print::<F, W>(alloc, name, policy, rules) {
-        Ok(printed) => Ok(printed.text.into_vec()),
-        Err(PrintFault::Lines) => Err(Refusal::Limit(Kind::Lines)),
-        Err(PrintFault::Memory) => Err(Refusal::Memory),
-    }
-}
-
-// That each list of ranges in a cube is a set.
-fn has_sets<const W: u32>(cube: &Cube<W>)
-    ensures { HasSets cube.now }
-{
-    let _ = cube.src.ranges();
-    let _ = cube.dst.ranges();
-    let _ = cube.proto.ranges();
-    let _ = cube.sport.ranges();
-    let _ = cube.dport.ranges();
-}
-
-fn have_sets<const W: u32>(rules: &[SimpleRule<W>])
-    ensures { EachCube HasSets rules.now }
-{
-    for rule in rules {
-        has_sets(&rule.cube);
-    }
-}
 
 // That the text of these rules of a chain, which has this name and policy, means what the side asks. The time grows with the rules' number.
 #[tactic(auto, using(crate::proofs::NameLemmas::rules_printable, crate::proofs::HeadlineLemmas::is_filter_of))]
@@ -77,10 +40,10 @@ fn means_its_side<F: Family<W>, const W: u32>(
     requires accepts { Accepts side dump.now chain policy rules.now }
     requires regular { EachCube IsRegular rules.now }
     requires states { EachCube HasStates rules.now }
+    requires sets { EachCube HasSets rules.now }
     requires names { EachCube (NamesAreKnown dump.now chain) rules.now }
     ensures { IsFilterOf W F.Reads side dump.now chain name.now policy (printed F.text_of W name.now policy rules.now) }
 {
-    have_sets(rules);
     means_its_rules(name, policy, rules);
     is_read_back::<F, W>(name, policy, rules);
 }
@@ -100,13 +63,18 @@ fn filter_of<F: Family<W>, const W: u32>(
     requires built_in { is_among built_in name.now ≡ true }
     requires printable { IsPrintableDump dump.now }
     requires chain_is { IsChain dump.now chain name.now policy }
-    ensures ok { IfOk result (λ written. IsFilterText F.text_of side dump.now chain name.now policy written.items) }
-    ensures means { IfOk result (λ written. IsFilterOf W F.Reads side dump.now chain name.now policy written.items) }
-    ensures refused { IfErr result (RefusesPrinted F.text_of side dump.now chain name.now) }
+    requires policy { policy_of dump.now chain ≡ Some policy }
+    ensures ok { IfOk result (λ written. IsPrintedFilter W F.Reads F.text_of side name.now dump.now chain written.items) }
+    ensures within { OnOk result (IsWithin dump.now chain (IsFilterOver F.text_of side name.now dump.now chain)) }
+    ensures refused { IfErr result (Comes dump.now chain (IsFilterOver F.text_of side name.now dump.now chain)) }
 {
     let rules = closed(alloc, dump, chain, side)?;
     means_its_side::<F, W>(dump, chain, side, name, policy, rules.as_slice());
-    text_of::<F, W>(alloc, name, policy, rules.as_slice())
+    match print::<F, W>(alloc, name, policy, rules.as_slice()) {
+        Ok(printed) => Ok(printed.text.into_vec()),
+        Err(PrintFault::Lines) => Err(Refusal::Limit(Kind::Lines)),
+        Err(PrintFault::Memory) => Err(Refusal::Memory),
+    }
 }
 
 /// The filter of one side of the chain of this name of a text.
@@ -117,7 +85,7 @@ pub fn filter_text<F: Family<W>, const W: u32>(
     text: &[u8],
 ) -> Result<Vec<u8>, Status>
     requires width { IsWidth W }
-    requires size { length text.now ≤ 16777216 }
+    requires size { length text.now ≤ MOST_BYTES }
     ensures ok { IfOk result (λ written. Filters W F.Reads F.text_of side name.now text.now written.items) }
     ensures refused { IfErr result (λ s. (s ≡ Status.Memory) ⊎ RefusesFilter W F.Reads F.text_of side name.now text.now s) }
 {

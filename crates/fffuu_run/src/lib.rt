@@ -23,7 +23,5 @@ pub use load_dump::load_text;
 pub use request::{Claim, Mode, Request, SpellFault, one_request, spell};
 pub use simple_filter::Kind;
 pub use status::Status;
+pub use telling::report;
 pub use top::{run, run_pure};
-
-#[cfg(test)]
-mod tests;

@@ -1,19 +1,19 @@
-ghost use Rattle.std.specs.Prelude.{◌≡◌, ◌≤◌, ◌<◌, ◌⊎◌, ℕ, IfOk, IfErr, MatchResult};
+ghost use Rattle.std.specs.Prelude.{◌≡◌, ◌≤◌, ◌<◌, ◌⊎◌, ℕ, IfOk, IfErr, OnOk, MatchResult, Some, length};
 ghost use Rattle.chain_graph.specs.Paths.{CallsNameChains};
-ghost use Rattle.closure.specs.declared.sides.Side.{Side};
-ghost use Rattle.fw_rule.specs.Calls.{HasRoom};
+ghost use Rattle.fw_rule.specs.declared.side.Side.{Side};
+ghost use Rattle.dump_print.specs.Printed.{count_lines};
+ghost use Rattle.fw_rule.specs.Walk.{HasRoom, policy_of};
 ghost use Rattle.interval_set.specs.Numbers.{IsWidth};
 ghost use Rattle.fffuu_run.specs.Answers.{ipv4_of};
-ghost use Rattle.fffuu_run.specs.Filters.{RefusesPrinted};
-ghost use Rattle.fffuu_run.specs.Headline.{IsChain};
-ghost use Rattle.fffuu_run.specs.Loads.{IsSize, IsSummary, Loads, RefusesLoads, RefusesSummary, order_of, side_line, summary_lines};
+ghost use Rattle.fffuu_run.specs.Filters.{IsFilterOver, simple_rules};
+ghost use Rattle.fffuu_run.specs.Loads.{IsLoadOver, Loads, RefusesLoad, load_summary, side_line, summary_lines};
+ghost use Rattle.fffuu_run.specs.Questions.{Comes, IsWithin, order_of};
 
 use crate::Status;
 use crate::questions::{AskedChain, question, told};
 use addr_text::{Family, V4};
-use closure::Side;
 use dump_print::{PrintFault, print};
-use fw_rule::{Dump, Verdict};
+use fw_rule::{Dump, Side, Verdict};
 use load_dump::load_text;
 use primitives::Prim_;
 use simple_filter::{Kind, Refusal, closed};
@@ -38,9 +38,11 @@ fn size_of_side<F: Family<W>, const W: u32>(
     requires width { IsWidth W }
     requires room { HasRoom dump.now }
     requires named { CallsNameChains dump.now }
-    requires chain_is { IsChain dump.now chain name.now policy }
-    ensures ok { IfOk result (λ size. IsSize F.text_of name.now dump.now chain side size.rules size.lines) }
-    ensures refused { IfErr result (RefusesPrinted F.text_of side dump.now chain name.now) }
+    requires policy { policy_of dump.now chain ≡ Some policy }
+    ensures rules { IfOk result (λ size. size.rules ≡ length (simple_rules dump.now chain side)) }
+    ensures lines { IfOk result (λ size. size.lines ≡ count_lines F.text_of W name.now (simple_rules dump.now chain side)) }
+    ensures within { OnOk result (IsWithin dump.now chain (IsFilterOver F.text_of side name.now dump.now chain)) }
+    ensures refused { IfErr result (Comes dump.now chain (IsFilterOver F.text_of side name.now dump.now chain)) }
 {
     let rules = closed(alloc, dump, chain, side)?;
     match print::<F, W>(alloc, name, policy, rules.as_slice()) {
@@ -65,11 +67,13 @@ fn size_or_limit<F: Family<W>, const W: u32>(
     requires width { IsWidth W }
     requires room { HasRoom dump.now }
     requires named { CallsNameChains dump.now }
-    requires chain_is { IsChain dump.now chain name.now policy }
+    requires policy { policy_of dump.now chain ≡ Some policy }
     ensures ok { IfOk result (λ size. MatchResult size
-        (λ size. IsSize F.text_of name.now dump.now chain side size.rules size.lines)
-        (λ kind. RefusesPrinted F.text_of side dump.now chain name.now (Refusal.Limit kind))) }
-    ensures refused { IfErr result (RefusesSummary F.text_of name.now dump.now chain) }
+        (λ size. (size.rules ≡ length (simple_rules dump.now chain side))
+        × (size.lines ≡ count_lines F.text_of W name.now (simple_rules dump.now chain side))
+        × IsWithin dump.now chain (IsFilterOver F.text_of side name.now dump.now chain))
+        (λ kind. Comes dump.now chain (IsFilterOver F.text_of side name.now dump.now chain) (Refusal.Limit kind))) }
+    ensures refused { IfErr result (Comes dump.now chain (IsLoadOver F.text_of name.now dump.now chain)) }
 {
     match size_of_side::<F, W>(alloc, dump, chain, side, name, policy) {
         Ok(size) => Ok(Ok(size)),
@@ -127,9 +131,10 @@ fn summary_of<F: Family<W>, const W: u32>(
     requires width { IsWidth W }
     requires room { HasRoom dump.now }
     requires named { CallsNameChains dump.now }
-    requires chain_is { IsChain dump.now chain name.now policy }
-    ensures ok { IfOk result (λ written. IsSummary F.text_of name.now dump.now chain n written.items) }
-    ensures refused { IfErr result (RefusesSummary F.text_of name.now dump.now chain) }
+    requires policy { policy_of dump.now chain ≡ Some policy }
+    ensures ok { IfOk result (λ written. written.items ≡ load_summary F.text_of name.now dump.now chain n) }
+    ensures within { OnOk result (IsWithin dump.now chain (IsLoadOver F.text_of name.now dump.now chain)) }
+    ensures refused { IfErr result (Comes dump.now chain (IsLoadOver F.text_of name.now dump.now chain)) }
 {
     let upper = size_or_limit::<F, W>(alloc, dump, chain, Side::Upper, name, policy)?;
     let lower = size_or_limit::<F, W>(alloc, dump, chain, Side::Lower, name, policy)?;
@@ -151,7 +156,7 @@ pub fn load_summary(alloc: Global, name: &[u8], n: u32) -> Result<Vec<u8>, Statu
     requires few { 1 ≤ n }
     requires most { n ≤ 1000 }
     ensures ok { IfOk result (λ written. Loads ipv4_of name.now n written.items) }
-    ensures refused { IfErr result (λ s. (s ≡ Status.Memory) ⊎ RefusesLoads ipv4_of name.now n s) }
+    ensures refused { IfErr result (λ s. (s ≡ Status.Memory) ⊎ RefusesLoad ipv4_of name.now n s) }
 {
     let text = load_text(alloc, n)?;
     let AskedChain {

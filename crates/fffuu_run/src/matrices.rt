@@ -3,14 +3,14 @@ ghost use Rattle.chain_graph.specs.Paths.{CallsNameChains};
 ghost use Rattle.closure.specs.Checked.{HasPolicy};
 ghost use Rattle.fw_rule.specs.Calls.{HasRoom};
 ghost use Rattle.interval_set.specs.Numbers.{IsWidth};
-ghost use Rattle.service_matrix.specs.Refusals.{RefusesMatrix};
-ghost use Rattle.fffuu_run.specs.Matrices.{IsMatrixText, Matrices, RefusesMatrices, class_line, class_lines, edge_count, edge_line, edge_lines, matrix_text, row_lines};
+ghost use Rattle.limits.specs.declared.TheConstants.{MOST_BYTES};
+ghost use Rattle.fffuu_run.specs.Questions.{Comes, IsWithin};
+ghost use Rattle.fffuu_run.specs.Matrices.{IsMatrixOver, IsMatrixText, Matrices, RefusesMatrices, class_line, class_lines, edge_count, edge_line, edge_lines, matrix_text, row_lines};
 
 use crate::Status;
 use crate::questions::{AskedChain, question, told};
 use addr_text::Family;
-use closure::Side;
-use fw_rule::Dump;
+use fw_rule::{Dump, Side};
 use fw_text::ranges_text;
 use interval_set::Set;
 use match_expr::List;
@@ -124,7 +124,8 @@ fn matrix_of<F: Family<W>, const W: u32>(
     requires room { HasRoom dump.now }
     requires named { CallsNameChains dump.now }
     ensures ok { IfOk result (λ written. IsMatrixText F.text_of side service.now dump.now chain written.items) }
-    ensures refused { IfErr result (RefusesMatrix side dump.now chain) }
+    ensures within { OnOk result (IsWithin dump.now chain (IsMatrixOver side dump.now chain)) }
+    ensures refused { IfErr result (Comes dump.now chain (IsMatrixOver side dump.now chain)) }
 {
     let found = matrix(alloc, dump, chain, side, service)?;
     Ok(text_of::<F, W>(alloc, &found)?)
@@ -139,7 +140,7 @@ pub fn matrix_text<F: Family<W>, const W: u32>(
     text: &[u8],
 ) -> Result<Vec<u8>, Status>
     requires width { IsWidth W }
-    requires size { length text.now ≤ 16777216 }
+    requires size { length text.now ≤ MOST_BYTES }
     ensures ok { IfOk result (λ written. Matrices W F.Reads F.text_of side service.now name.now text.now written.items) }
     ensures refused { IfErr result (λ s. (s ≡ Status.Memory) ⊎ RefusesMatrices W F.Reads F.text_of side service.now name.now text.now s) }
 {

@@ -1,15 +1,17 @@
-ghost use Rattle.std.specs.Prelude.{◌≡◌, ◌≤◌, ◌<◌, ◌⊎◌, ℕ, IfOk, IfErr, length};
+ghost use Rattle.std.specs.Prelude.{◌≡◌, ◌≤◌, ◌<◌, ◌⊎◌, ℕ, IfOk, IfErr, Some, length};
 ghost use Rattle.chain_graph.specs.Paths.{CallsNameChains};
 ghost use Rattle.dump_read.specs.Answers.{IsPrintableDump};
-ghost use Rattle.fw_rule.specs.Calls.{HasRoom};
+ghost use Rattle.fw_rule.specs.Walk.{HasRoom, policy_of};
 ghost use Rattle.interval_set.specs.Numbers.{IsWidth};
+ghost use Rattle.limits.specs.declared.TheConstants.{MOST_BYTES};
 ghost use Rattle.fffuu_run.specs.Headline.{IsChain};
-ghost use Rattle.fffuu_run.specs.Questions.{HasNoChain, IsAsked, IsToldAs};
+ghost use Rattle.fffuu_run.specs.Questions.{AsksChain, HasNoChain, IsToldAs, asked_chain};
 
 use crate::Status;
-use crate::dumps::{asked, name_of, policy_of, read};
+use crate::dumps::{asked, name_of, read};
 use addr_text::Family;
-use fw_rule::{Dump, Verdict};
+use fw_rule::{Dump, Verdict, policy_of};
+use match_expr::Primitive;
 use primitives::Prim_;
 use simple_filter::Refusal;
 use std::alloc::Global;
@@ -22,6 +24,18 @@ pub struct AskedChain<const W: u32> {
     pub policy: Verdict,
 }
 
+// The policy of the chain of this name.
+fn asked_policy<P: Primitive>(dump: &Dump<P>, name: &[u8], chain: u32) -> Verdict
+    requires { asked_chain name.now dump.now ≡ Some chain }
+    ensures chain { IsChain dump.now chain name.now result }
+    ensures policy { policy_of dump.now chain ≡ Some result }
+{
+    match policy_of(dump, chain) {
+        Some(policy) => policy,
+        None => unreachable!(),
+    }
+}
+
 /// The dump that a text is, and its chain of this name.
 pub fn question<F: Family<W>, const W: u32>(
     alloc: Global,
@@ -29,9 +43,10 @@ pub fn question<F: Family<W>, const W: u32>(
     text: &[u8],
 ) -> Result<AskedChain<W>, Status>
     requires width { IsWidth W }
-    requires size { length text.now ≤ 16777216 }
-    ensures asked { IfOk result (λ q. IsAsked W F.Reads name.now text.now q.dump q.chain) }
+    requires size { length text.now ≤ MOST_BYTES }
+    ensures asked { IfOk result (λ q. AsksChain W F.Reads name.now text.now q.dump q.chain) }
     ensures chain { IfOk result (λ q. IsChain q.dump q.chain name.now q.policy) }
+    ensures policy { IfOk result (λ q. policy_of q.dump q.chain ≡ Some q.policy) }
     ensures room { IfOk result (λ q. HasRoom q.dump) }
     ensures named { IfOk result (λ q. CallsNameChains q.dump) }
     ensures printable { IfOk result (λ q. IsPrintableDump q.dump) }
@@ -41,10 +56,11 @@ pub fn question<F: Family<W>, const W: u32>(
     let Some(chain) = asked(&dump, name) else {
         return Err(Status::NoChain);
     };
-    let policy = policy_of(&dump, name, chain);
+    let chain = chain as u32;
+    let policy = asked_policy(&dump, name, chain);
     Ok(AskedChain {
         dump,
-        chain: chain as u32,
+        chain,
         policy,
     })
 }

@@ -4,10 +4,8 @@ ghost use Rattle.fffuu_run.specs.Runs.{ReadsTooMuch, ReadsWhole};
 ghost use Rattle.fffuu_run.specs.declared.reading.ReadError.TheVariants.{Memory};
 
 use fw_io::Source;
+use limits::MOST_BYTES;
 use std::alloc::{AllocError, Global};
-
-// The most bytes of input.
-const MOST: usize = 16_777_216;
 
 // How many bytes are asked for at a time.
 const PIECE: usize = 65_536;
@@ -53,8 +51,8 @@ fn read_through<S: Source>(
     ensures later { S.faults source.old ≤ S.faults source.new }
 {
     let mut text = Vec::new(alloc);
-    while text.len() <= MOST {
-        let room = (MOST + 1 - text.len()).min(buffer.len());
+    while text.len() <= MOST_BYTES {
+        let room = (MOST_BYTES + 1 - text.len()).min(buffer.len());
         match source.read(&mut buffer[..room]) {
             Ok(0) => return Ok(text),
             Ok(count) => text.extend_from_slice(&buffer[..count])?,

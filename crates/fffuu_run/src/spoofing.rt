@@ -1,11 +1,12 @@
-ghost use Rattle.std.specs.Prelude.{◌≡◌, ◌≤◌, ◌⊎◌, ◌++◌, ◌∷◌, [], IfOk, IfErr, OnOk, length};
+ghost use Rattle.std.specs.Prelude.{◌≡◌, ◌≤◌, ◌⊎◌, ◌++◌, ◌∷◌, [], IfOk, IfErr, OnOk, Some, length};
 ghost use Rattle.std.specs.List.{AllByRecursion};
 ghost use Rattle.chain_graph.specs.Paths.{CallsNameChains};
-ghost use Rattle.fw_rule.specs.Calls.{HasRoom};
+ghost use Rattle.fw_rule.specs.Walk.{HasRoom, policy_of};
 ghost use Rattle.interval_set.specs.Numbers.{IsWidth};
-ghost use Rattle.request.specs.Requests.{IsRange};
-ghost use Rattle.spoof_check.specs.Refusals.{HasVerdict, IsClosed};
-ghost use Rattle.fffuu_run.specs.Spoofing.{AreVerdicts, HasValidPacket, RefusesSpoofs, RefusesVerdicts, Spoofs, set_of, verdict_line};
+ghost use Rattle.primitives.specs.Ranges.{IsRange};
+ghost use Rattle.limits.specs.declared.TheConstants.{MOST_BYTES};
+ghost use Rattle.fffuu_run.specs.Questions.{Comes, IsWithin};
+ghost use Rattle.fffuu_run.specs.Spoofing.{AreVerdicts, HasValidPacket, IsSpoofOver, RefusesSpoofs, Spoofs, set_of, verdict_line};
 
 use crate::Status;
 use crate::questions::{AskedChain, question, told};
@@ -63,13 +64,13 @@ fn verdicts_of<F: Family<W>, const W: u32>(
     claims: &[Claim],
 ) -> Result<Vec<u8>, Refusal>
     requires width { IsWidth W }
-    requires policy { HasVerdict dump.now chain policy }
+    requires policy { policy_of dump.now chain ≡ Some policy }
     requires room { HasRoom dump.now }
     requires named { CallsNameChains dump.now }
     requires ranges { AllByRecursion (λ claim. AllByRecursion (IsRange W) claim.inside) claims.now }
-    ensures closed { OnOk result (IsClosed dump.now chain) }
     ensures ok { IfOk result (λ written. AreVerdicts dump.now chain F.text_of claims.now written.items) }
-    ensures refused { IfErr result (RefusesVerdicts dump.now chain claims.now) }
+    ensures within { OnOk result (IsWithin dump.now chain (IsSpoofOver dump.now chain claims.now)) }
+    ensures refused { IfErr result (Comes dump.now chain (IsSpoofOver dump.now chain claims.now)) }
 {
     let rules = searched_rules(alloc, dump, chain)?;
     let mut text = Vec::new(alloc);
@@ -90,7 +91,7 @@ pub fn spoof_text<F: Family<W>, const W: u32>(
     text: &[u8],
 ) -> Result<Vec<u8>, Status>
     requires width { IsWidth W }
-    requires size { length text.now ≤ 16777216 }
+    requires size { length text.now ≤ MOST_BYTES }
     requires ranges { AllByRecursion (λ claim. AllByRecursion (IsRange W) claim.inside) claims.now }
     ensures ok { IfOk result (λ written. Spoofs W F.Reads F.text_of claims.now name.now text.now written.items) }
     ensures refused { IfErr result (λ s. (s ≡ Status.Memory) ⊎ RefusesSpoofs W F.Reads F.text_of claims.now name.now text.now s) }

@@ -1,7 +1,7 @@
 ghost use Rattle.std.specs.Prelude.{◌≡◌, ◌++◌, ℕ, List, IfOk, OnErr, codes, decimal};
 ghost use Rattle.fw_text.specs.Names.{shown_name};
-ghost use Rattle.fffuu_run.specs.Lines.{IsBuilt, line_of, text_of, told, word_of};
-ghost use Rattle.fffuu_run.specs.Runs.{IsReported, WritesLine};
+ghost use Rattle.fffuu_run.specs.Lines.{IsBuilt, line_of, text_of, told, limit_word};
+ghost use Rattle.fffuu_run.specs.Runs.{Device, IsReported, WritesLine};
 
 use crate::Status;
 use crate::writing::write_all;
@@ -31,7 +31,7 @@ impl Line {
 const OUT_OF_MEMORY: &[u8] = b"fffuu: out of memory\n";
 
 fn limit_line(kind: Kind) -> &'static [u8]
-    ensures { result.now ≡ told (codes "limit " ++ word_of kind) }
+    ensures { result.now ≡ told (codes "limit " ++ limit_word kind) }
 {
     match kind {
         Kind::Depth => b"fffuu: limit depth\n",
@@ -74,8 +74,8 @@ fn numbered(alloc: Global, line: u32, what: &str) -> Result<Vec<u8>, AllocError>
 }
 
 // The line with its line feed, where the chain of this name was asked about. Only one with a number or a name in it takes memory.
-fn line_for(alloc: Global, asked: &[u8], status: &Status) -> Result<Line, AllocError>
-    ensures line { IfOk result (λ l. text_of l ≡ line_of asked.now status.now) }
+fn line_for(alloc: Global, chain: &[u8], status: &Status) -> Result<Line, AllocError>
+    ensures line { IfOk result (λ l. text_of l ≡ line_of chain.now status.now) }
     ensures memory { OnErr result (IsBuilt status.now) }
 {
     let fixed: &'static [u8] = match status {
@@ -95,7 +95,7 @@ fn line_for(alloc: Global, asked: &[u8], status: &Status) -> Result<Line, AllocE
         Status::UndefinedChain { line } => {
             return built(alloc, &numbered(alloc, *line, ": undefined chain")?);
         }
-        Status::NoChain => return named(alloc, b"no chain ", asked),
+        Status::NoChain => return named(alloc, b"no chain ", chain),
         Status::Unsupported { line, name } => {
             let front = numbered(alloc, *line, ": unsupported target ")?;
             return named(alloc, &front, name.as_slice());
@@ -109,19 +109,23 @@ fn line_for(alloc: Global, asked: &[u8], status: &Status) -> Result<Line, AllocE
 
 // Writes a line. A sink that refuses it changes nothing else.
 fn tell<E: Sink>(line: &[u8], err: &mut E)
-    ensures { (sent rest : List ℕ) × WritesLine (E.held err.old) (E.held err.new) (E.faults err.old) (E.faults err.new)
+    ensures { (sent rest : List ℕ) × WritesLine
+        (record { bytes = E.held err.old; faults = E.faults err.old })
+        (record { bytes = E.held err.new; faults = E.faults err.new })
         line.now sent rest }
 {
     let _ = write_all(err, line);
 }
 
 /// Writes the line of the status on `err`, where the chain of this name was asked about. Where the line finds no memory, that is the status.
-pub fn report<E: Sink>(alloc: Global, asked: &[u8], status: Status, err: &mut E) -> Status
+pub fn report<E: Sink>(alloc: Global, chain: &[u8], status: Status, err: &mut E) -> Status
     ensures settled { IsReported status result }
-    ensures told { (sent rest : List ℕ) × WritesLine (E.held err.old) (E.held err.new) (E.faults err.old) (E.faults err.new)
-        (line_of asked.now result) sent rest }
+    ensures told { (sent rest : List ℕ) × WritesLine
+        (record { bytes = E.held err.old; faults = E.faults err.old })
+        (record { bytes = E.held err.new; faults = E.faults err.new })
+        (line_of chain.now result) sent rest }
 {
-    match line_for(alloc, asked, &status) {
+    match line_for(alloc, chain, &status) {
         Ok(line) => {
             tell(line.as_bytes(), err);
             status

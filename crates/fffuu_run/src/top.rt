@@ -1,9 +1,9 @@
 ghost use Rattle.std.specs.Prelude.{◌≡◌, ◌⊎◌, ℕ, List, IfSome, map, string_bytes};
 ghost use Rattle.fw_io.specs.Causes.{Rose};
-ghost use Rattle.request.specs.Requests.{Spells};
-ghost use Rattle.request.specs.declared.types.Request.{Request as Asked};
+ghost use Rattle.request.specs.Requests.{Spells, chain_in};
+ghost use Rattle.request.specs.declared.types.Request.{Request as ARequest};
 ghost use Rattle.fffuu_run.specs.Lines.{line_of};
-ghost use Rattle.fffuu_run.specs.Runs.{Ends, IsRead, IsStatusOf, Devices, WritesLine, Writes, asked_in};
+ghost use Rattle.fffuu_run.specs.Runs.{Device, Devices, IsRead, IsRun, IsStatusOf, WritesLine, Writes};
 
 use crate::Status;
 use crate::telling::report;
@@ -17,7 +17,7 @@ use std::alloc::Global;
 #[derive(Drop)]
 struct Ending {
     status: Status,
-    asked: Bytes,
+    chain: Bytes,
 }
 
 // Reads the words, and does the work that they ask for.
@@ -28,12 +28,18 @@ fn answered<S: Source, O: Sink>(
     out: &mut O,
 ) -> Ending
     ensures unread { result.status ≡ Status.Usage → source.new ≡ source.old }
-    ensures unused { (request : Asked) → Spells (map string_bytes words.now.items) request → (IsRead request.mode → ⊥) → source.new ≡ source.old }
+    ensures unused { (request : ARequest) → Spells (map string_bytes words.now.items) request → (IsRead request.mode → ⊥) → source.new ≡ source.old }
     ensures kept { (Writes result.status → ⊥) → out.new ≡ out.old }
-    ensures named { result.status ≡ Status.NoChain → result.asked ≡ asked_in (map string_bytes words.now.items) }
-    ensures ends { Ends (map string_bytes words.now.items)
-        (record { left = S.left source.old; read_faults = S.faults source.old; held = O.held out.old; write_faults = O.faults out.old })
-        (record { left = S.left source.new; read_faults = S.faults source.new; held = O.held out.new; write_faults = O.faults out.new })
+    ensures named { result.status ≡ Status.NoChain → result.chain ≡ chain_in (map string_bytes words.now.items) }
+    ensures ends { IsRun (map string_bytes words.now.items)
+        (record {
+          source = record { bytes = S.left source.old; faults = S.faults source.old };
+          sink = record { bytes = O.held out.old; faults = O.faults out.old };
+        })
+        (record {
+          source = record { bytes = S.left source.new; faults = S.faults source.new };
+          sink = record { bytes = O.held out.new; faults = O.faults out.new };
+        })
         result.status }
 {
     match spell(alloc, words) {
@@ -41,16 +47,16 @@ fn answered<S: Source, O: Sink>(
             let status = work(alloc, &request, source, out);
             Ending {
                 status,
-                asked: request.chain,
+                chain: request.chain,
             }
         }
         Err(SpellFault::Usage) => Ending {
             status: Status::Usage,
-            asked: Bytes::of(Vec::new(alloc)),
+            chain: Bytes::of(Vec::new(alloc)),
         },
         Err(SpellFault::Memory) => Ending {
             status: Status::Memory,
-            asked: Bytes::of(Vec::new(alloc)),
+            chain: Bytes::of(Vec::new(alloc)),
         },
     }
 }
@@ -91,45 +97,53 @@ pub fn run<S: Source, O: Sink, E: Sink>(
     out: &mut O,
     err: &mut E,
 ) -> Status
-    ensures ends { Ends (map string_bytes words.now.items)
-        (record { left = S.left source.old; read_faults = S.faults source.old; held = O.held out.old; write_faults = O.faults out.old })
-        (record { left = S.left source.new; read_faults = S.faults source.new; held = O.held out.new; write_faults = O.faults out.new })
+    ensures ends { IsRun (map string_bytes words.now.items)
+        (record {
+          source = record { bytes = S.left source.old; faults = S.faults source.old };
+          sink = record { bytes = O.held out.old; faults = O.faults out.old };
+        })
+        (record {
+          source = record { bytes = S.left source.new; faults = S.faults source.new };
+          sink = record { bytes = O.held out.new; faults = O.faults out.new };
+        })
         result }
 
     // After Usage and in a load the source, and after each refusal but a failed write the sink, is the one that it was.
     ensures unread { result ≡ Status.Usage → source.new ≡ source.old }
-    ensures unused { (request : Asked) → Spells (map string_bytes words.now.items) request → (IsRead request.mode → ⊥) → source.new ≡ source.old }
+    ensures unused { (request : ARequest) → Spells (map string_bytes words.now.items) request → (IsRead request.mode → ⊥) → source.new ≡ source.old }
     ensures kept { (Writes result → ⊥) → out.new ≡ out.old }
 
     // A front of the status's line stands on `err`, all of it where no write there failed.
-    ensures told { (sent rest : List ℕ) × WritesLine (E.held err.old) (E.held err.new) (E.faults err.old) (E.faults err.new)
-        (line_of (asked_in (map string_bytes words.now.items)) result) sent rest }
+    ensures told { (sent rest : List ℕ) × WritesLine
+        (record { bytes = E.held err.old; faults = E.faults err.old })
+        (record { bytes = E.held err.new; faults = E.faults err.new })
+        (line_of (chain_in (map string_bytes words.now.items)) result) sent rest }
 
     // Exactly where the words spell no request, but for want of memory.
-    ensures usage { result ≡ Status.Usage → (request : Asked) → Spells (map string_bytes words.now.items) request → ⊥ }
-    ensures no_request { ((request : Asked) → Spells (map string_bytes words.now.items) request → ⊥)
+    ensures usage { result ≡ Status.Usage → (request : ARequest) → Spells (map string_bytes words.now.items) request → ⊥ }
+    ensures no_request { ((request : ARequest) → Spells (map string_bytes words.now.items) request → ⊥)
         → (result ≡ Status.Usage) ⊎ (result ≡ Status.Memory) }
 
     // Where the words are right and the source tells what it has, the text decides the status.
-    ensures exact { (request : Asked) → Spells (map string_bytes words.now.items) request
+    ensures exact { (request : ARequest) → Spells (map string_bytes words.now.items) request
         → IfSome (S.left source.old) (λ text. IsStatusOf request text result) }
 
     // A read or a write fails only where its count rises, so where none does the text alone decides, but for want of memory.
     ensures faults { (result ≡ Status.ReadFault → Rose (S.faults source.old) (S.faults source.new))
         × (result ≡ Status.WriteFault → Rose (O.faults out.old) (O.faults out.new)) }
 {
-    let Ending { status, asked } = answered(alloc, words, source, out);
-    report(alloc, asked.as_slice(), status, err)
+    let Ending { status, chain } = answered(alloc, words, source, out);
+    report(alloc, chain.as_slice(), status, err)
 }
 
 /// The status of a run over bytes in memory, whose output and error line go nowhere. No read or write fails.
 pub fn run_pure(alloc: Global, words: &Vec<String>, bytes: Bytes) -> Status
     ensures no_read_fault { result ≡ Status.ReadFault → ⊥ }
     ensures no_write_fault { result ≡ Status.WriteFault → ⊥ }
-    ensures usage { result ≡ Status.Usage → (request : Asked) → Spells (map string_bytes words.now.items) request → ⊥ }
-    ensures no_request { ((request : Asked) → Spells (map string_bytes words.now.items) request → ⊥)
+    ensures usage { result ≡ Status.Usage → (request : ARequest) → Spells (map string_bytes words.now.items) request → ⊥ }
+    ensures no_request { ((request : ARequest) → Spells (map string_bytes words.now.items) request → ⊥)
         → (result ≡ Status.Usage) ⊎ (result ≡ Status.Memory) }
-    ensures exact { (request : Asked) → Spells (map string_bytes words.now.items) request → IsStatusOf request bytes result }
+    ensures exact { (request : ARequest) → Spells (map string_bytes words.now.items) request → IsStatusOf request bytes result }
 {
     let mut source = PureSource::new(bytes);
     let mut out = PureSink::new();

@@ -1,7 +1,8 @@
 ghost use Rattle.std.specs.Prelude.{◌≡◌, ◌≤◌, ℕ, List, IfOk, IsErrOf, length};
 ghost use Rattle.fw_io.specs.Causes.{Rose};
+ghost use Rattle.limits.specs.declared.TheConstants.{MOST_BYTES};
 ghost use Rattle.request.specs.Requests.{HasBounds};
-ghost use Rattle.fffuu_run.specs.Runs.{Devices, IsRead, ReadsTooMuch, Takes, Works, Writes};
+ghost use Rattle.fffuu_run.specs.Runs.{AnswersTo, Device, Devices, IsRead, IsRunOf, ReadsTooMuch, Writes};
 
 use crate::Status;
 use crate::answering::answer;
@@ -13,8 +14,10 @@ use std::alloc::Global;
 
 // The text that a mode answers to: all that the source gives, and for a load, which reads nothing, an empty one.
 fn text_for<S: Source>(alloc: Global, mode: &Mode, source: &mut S) -> Result<Vec<u8>, ReadError>
-    ensures takes { IfOk result (λ text. Takes mode.now (S.left source.old) (S.left source.new) (S.faults source.old) (S.faults source.new) text.items) }
-    ensures size { IfOk result (λ text. length text.items ≤ 16777216) }
+    ensures takes { IfOk result (λ text. AnswersTo mode.now
+        (record { bytes = S.left source.old; faults = S.faults source.old })
+        (record { bytes = S.left source.new; faults = S.faults source.new }) text.items) }
+    ensures size { IfOk result (λ text. length text.items ≤ MOST_BYTES) }
     ensures unread { (IsRead mode.now → ⊥) → source.new ≡ source.old }
     ensures failed { IsErrOf result ReadError.Failed → IsRead mode.now × Rose (S.faults source.old) (S.faults source.new) }
     ensures too_long { IsErrOf result ReadError.TooLong
@@ -37,9 +40,15 @@ pub fn work<S: Source, O: Sink>(
     ensures used { result ≡ Status.Usage → ⊥ }
     ensures kept { (Writes result → ⊥) → out.new ≡ out.old }
     ensures unread { (IsRead request.now.mode → ⊥) → source.new ≡ source.old }
-    ensures works { Works request.now
-        (record { left = S.left source.old; read_faults = S.faults source.old; held = O.held out.old; write_faults = O.faults out.old })
-        (record { left = S.left source.new; read_faults = S.faults source.new; held = O.held out.new; write_faults = O.faults out.new })
+    ensures works { IsRunOf request.now
+        (record {
+          source = record { bytes = S.left source.old; faults = S.faults source.old };
+          sink = record { bytes = O.held out.old; faults = O.faults out.old };
+        })
+        (record {
+          source = record { bytes = S.left source.new; faults = S.faults source.new };
+          sink = record { bytes = O.held out.new; faults = O.faults out.new };
+        })
         result }
 {
     let text = match text_for(alloc, &request.mode, source) {

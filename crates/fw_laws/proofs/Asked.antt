@@ -1,17 +1,18 @@
 -- What a walk doesn't ask for doesn't matter.
-use Rattle.std.specs.Prelude.{ℕ, ◌≡◌, Bool, true, false, List, [], ◌∷◌, ◌++◌, Some, slice_get, refl}
+use Rattle.std.specs.Prelude.{ℕ, ◌≡◌, Bool, true, false, List, [], ◌∷◌, ◌++◌, Option, Some, slice_get, refl}
 use Rattle.std.proofs.Common.{subst, sym, ap, ◌∙◌, true≢false}
 use Rattle.std.specs.List.{list_any}
 use Rattle.std.proofs.lemmas.List.{map-id}
 use Rattle.std.proofs.lemmas.List.Folds.{list_any_at}
 use Rattle.std.proofs.lemmas.Option.{option_and_then_some, slice_get_within, get_or_from_slice_get}
+use Rattle.fw_rule.specs.declared.rule.Verdict.{Verdict}
 use Rattle.fw_rule.specs.declared.rule.Verdict.TheVariants.{Accept}
 use Rattle.fw_rule.specs.declared.rule.Lit.{Lit}
 use Rattle.fw_rule.specs.declared.rule.Rule.{Rule}
 use Rattle.fw_rule.specs.declared.rule.Chain.{Chain}
 use Rattle.fw_rule.specs.declared.rule.Dump.{Dump}
 use Rattle.fw_rule.specs.declared.rule.Place.{Place}
-use Rattle.fw_rule.specs.Walk.{Path, Meaning, State, At, Ended, Frame, step, after, Walks, is_unknown, RuleOf, Reaches, Here}
+use Rattle.fw_rule.specs.Walk.{Path, Meaning, State, At, Ended, Frame, policy_of, step, after, Walks, is_unknown, RuleOf, Reaches, Here}
 use Rattle.fw_rule.proofs.Ends.{contains_at, append}
 use Rattle.fw_laws.specs.Shape.{rule_at}
 use Rattle.fw_laws.specs.Places.{Asks, OthersDontMatter}
@@ -22,12 +23,12 @@ use Rattle.fw_laws.proofs.Moves.{Move, On, Home, Done, Into, move, along}
 
 module _ {P Packet : Type 0} (holds : P → Packet → Bool) (dump : Dump P) (p : Packet) where
   pub others_dont_matter : OthersDontMatter holds dump p
-  others_dont_matter m w asked agree k = same_after holds dump dump p p m w refl k (At asked 0 [] []) (λ j c n path frames l e a b at_a at_b.
+  others_dont_matter m w asked agree k = same_after holds dump dump p p m w (policy_of dump asked) refl k (At asked 0 [] []) (λ j c n path frames l e a b at_a at_b.
       let same : a ≡ b = cc in
       let below : Path = path ++ record { chain = c; rule = n } ∷ [] in
       match_alike holds p p m w below (λ lit. lit) a b (ap (λ (x : Rule P). x.lits) (sym same) ∙ sym (map-id a.lits)) (λ i lit q. by_literal j c n path frames e a at_a i lit q))
     where
-      by_literal : (j c n : ℕ) (path : Path) (frames : List Frame) → after holds dump p m j (At asked 0 [] []) ≡ Some (At c n path frames) → (a : Rule P) → rule_at dump c n ≡ Some a →
+      by_literal : (j c n : ℕ) (path : Path) (frames : List Frame) → after holds dump p m (policy_of dump asked) j (At asked 0 [] []) ≡ Some (At c n path frames) → (a : Rule P) → rule_at dump c n ≡ Some a →
           (i : ℕ) (lit : Lit P) → slice_get a.lits i ≡ Some lit → HoldAlike holds p p m w (path ++ record { chain = c; rule = n } ∷ []) (λ x. x) i lit
       by_literal j c n path frames e a at i (Lit.Known neg expr) q = refl
       by_literal j c n path frames e a at i (Lit.Unknown text) q = agree (record { steps = path ++ record { chain = c; rule = n } ∷ []; lit = i }) (record {
@@ -57,13 +58,13 @@ module _ {P : Type 0} (dump : Dump P) (asked : ℕ) where
   by_move c next path frames t h (Into k q e) = subst ReachedAt (sym e) (append dump h.0 q, h)
 
   module _ {Packet : Type 0} (holds : P → Packet → Bool) (p : Packet) (m : Meaning) where
-    keeps : (s t : State) → ReachedAt s → step holds dump p m s ≡ Some t → ReachedAt t
-    keeps (At c next path frames) t h e = by_move c next path frames t h (move dump c next path frames t holds p m e)
-    keeps (Ended v) t h e = cc
+    keeps : (policy : Option Verdict) (s t : State) → ReachedAt s → step holds dump p m policy s ≡ Some t → ReachedAt t
+    keeps policy (At c next path frames) t h e = by_move c next path frames t h (move dump c next path frames t holds p m policy e)
+    keeps policy (Ended v) t h e = cc
 
     -- a walk stands in chains alone that calls lead to
-    pub stands_reached : (k c n : ℕ) (path : Path) (frames : List Frame) → after holds dump p m k (At asked 0 [] []) ≡ Some (At c n path frames) → Reaches dump asked c
-    stands_reached k c n path frames e = (along holds dump p m ReachedAt keeps k (At asked 0 [] []) (At c n path frames) (Here, tt) e).0
+    pub stands_reached : (policy : Option Verdict) (k c n : ℕ) (path : Path) (frames : List Frame) → after holds dump p m policy k (At asked 0 [] []) ≡ Some (At c n path frames) → Reaches dump asked c
+    stands_reached policy k c n path frames e = (along holds dump p m policy ReachedAt (keeps policy) k (At asked 0 [] []) (At c n path frames) (Here, tt) e).0
 
   pub rule_of_at : (c n : ℕ) (rule : Rule P) → rule_at dump c n ≡ Some rule → RuleOf dump c rule
   rule_of_at c n rule e = option_and_then_some (λ (here : Chain P). slice_get here.rules n) (slice_get dump.chains c) rule e (λ here is h. (here, is, contains_at here.rules n rule h))
@@ -75,7 +76,7 @@ passes_none test xs i x e t none = true≢false (sym (list_any_at test xs i x (s
 module _ {P Packet : Type 0} (holds : P → Packet → Bool) (dump : Dump P) (asked : ℕ) (p : Packet) (known : KnownAlone dump asked) where
   asks_nothing : (m : Meaning) (place : Place) → Asks holds dump p m asked place → ⊥
   asks_nothing m place a = passes_none is_unknown a.rule.lits place.lit (Lit.Unknown a.text) a.unknown refl
-      (known a.visit.chain a.rule (stands_reached dump asked holds p m a.count a.visit.chain a.visit.next a.visit.calls a.visit.frames a.visit.stands)
+      (known a.visit.chain a.rule (stands_reached dump asked holds p m (policy_of dump asked) a.count a.visit.chain a.visit.next a.visit.calls a.visit.frames a.visit.stands)
       (rule_of_at dump asked a.visit.chain a.visit.next a.rule a.at))
 
   pub has_one_walk : HasOneWalk holds dump asked p

@@ -1,31 +1,29 @@
 -- Hiding keeps the walks of a dump among those of the hidden one.
-use Rattle.std.specs.Prelude.{ℕ, zero, suc, ◌+◌, ◌<◌, ◌^◌, ◌≡◌, Bool, true, false, ◌&&◌, ◌||◌, if◌then◌else◌, List, [], ◌∷◌, ◌++◌, Option, None, Some, map, slice_get, unwrap_or, length, refl}
-use Rattle.std.proofs.Common.{subst, sym, ap, ap₂, ◌∙◌, arith, zero-add, add-zero}
+use Rattle.std.specs.Prelude.{ℕ, zero, suc, ◌+◌, ◌<◌, ◌≡◌, Bool, true, false, if◌then◌else◌, List, [], ◌∷◌, ◌++◌, Option, None, Some, slice_get, unwrap_or, refl}
+use Rattle.std.proofs.Common.{subst, sym, ap, ◌∙◌, arith, zero-add, add-zero}
 use Rattle.std.specs.List.{list_any, filter}
 use Rattle.std.specs.Option.{option_and_then, option_map}
 use Rattle.std.proofs.lemmas.List.Folds.{list_any-append}
 use Rattle.std.proofs.lemmas.Map.Views.{any-filter_same}
-use Rattle.std.proofs.lemmas.Option.{slice_get-map, option_and_then_some}
-use Rattle.std.proofs.lemmas.List.{length-map}
-use Rattle.std.proofs.lemmas.List.Elements.{All-map, All-weaker}
+use Rattle.std.proofs.lemmas.Option.{option_and_then_some}
+use Rattle.basics.proofs.Truths.{or_left, or_right, and_true}
 use Rattle.match_expr.specs.declared.expr.Expr.{Expr}
 use Rattle.fw_rule.specs.declared.rule.Verdict.{Verdict}
 use Rattle.fw_rule.specs.declared.rule.Verdict.TheVariants.{Accept}
 use Rattle.fw_rule.specs.declared.rule.Lit.{Lit}
 use Rattle.fw_rule.specs.declared.rule.Rule.{Rule}
-use Rattle.fw_rule.specs.declared.rule.Chain.{Chain}
 use Rattle.fw_rule.specs.declared.rule.Dump.{Dump}
 use Rattle.fw_rule.specs.declared.rule.Place.{Place}
 use Rattle.fw_rule.specs.declared.rule.Step.{Step}
-use Rattle.fw_rule.specs.Walk.{Path, Meaning, State, At, Ended, Frame, same_place, known_holds, literal_holds, step, after, Walks, Settled, HasRoom, ChainHasRoom, RuleHasRoom, hidden_literal, hidden_rule, hidden_chain, hidden_by}
+use Rattle.fw_rule.specs.Walk.{Path, Meaning, State, At, Ended, Frame, same_place, known_holds, literal_holds, policy_of, step, after, Walks, Settled, mapped_rule, hidden_literal, hidden_by}
 use Rattle.fw_rule.proofs.WalkLaws.{one_verdict}
-use Rattle.fw_laws.specs.Shape.{shape_of, SameShape, rule_at}
-use Rattle.fw_laws.specs.Hidden.{NothingHidden, HiddenSettled, RoomStays, CallsStay, VerdictsStay, MayWidens, MustNarrows}
+use Rattle.fw_laws.specs.Shape.{rule_at}
+use Rattle.fw_laws.specs.Hidden.{NothingHidden, VerdictsStay, MayWidens, MustNarrows}
 use Rattle.fw_laws.proofs.Alike.{same_after}
 use Rattle.fw_laws.proofs.Deciding.{verdict_of}
 use Rattle.fw_laws.proofs.Literals.{match_alike}
+use Rattle.fw_laws.proofs.Mapping.{same_stays, shape_stays, policies_stay, rule_at-mapped}
 use Rattle.fw_laws.proofs.SamePlace.{place_from_same, same_itself}
-use Rattle.fw_laws.proofs.Settle.{settled_there, calls_there}
 
 -- the last step of a path
 abbrev last_or : Step → Path → Step
@@ -35,20 +33,6 @@ last_or d (s ∷ path) = last_or s path
 last-append : (d : Step) (path : Path) (s : Step) → last_or d (path ++ s ∷ []) ≡ s
 last-append d [] s = refl
 last-append d (t ∷ path) s = last-append t path s
-
--- whether one of two is true
-or_left : (a b : Bool) → a ≡ true → (a || b) ≡ true
-or_left true b e = refl
-or_left false b e = cc
-
-or_right : (a b : Bool) → b ≡ true → (a || b) ≡ true
-or_right true b e = refl
-or_right false b e = e
-
--- a part with what is true
-and_true : (a b : Bool) → b ≡ true → (a && b) ≡ a
-and_true true b e = e
-and_true false b e = refl
 
 -- the places of a rule's literals, the first of them with the number `l`
 abbrev places_from : {P : Type 0} → Path → ℕ → List (Lit P) → List Place
@@ -67,7 +51,7 @@ finds_place path l (x ∷ lits) (suc i) lit e =
     or_right (same_place (record { steps = path; lit = l + suc i }) (record { steps = path; lit = l })) (list_any (same_place (record { steps = path; lit = l + suc i })) (places_from path (l + 1) lits))
     (subst (λ (n : ℕ). list_any (same_place (record { steps = path; lit = n })) (places_from path (l + 1) lits) ≡ true) shift (finds_place path (l + 1) lits i lit e))
 
-module _ {P Packet : Type 0} (holds : P → Packet → Bool) (dump : Dump P) (p : Packet) (m : Meaning) where
+module _ {P Packet : Type 0} (holds : P → Packet → Bool) (dump : Dump P) (p : Packet) (m : Meaning) (policy : Option Verdict) where
   -- whether the literal of a place holds, if there is one
   abbrev truth_of : Place → Option (Rule P) → Bool
   truth_of place rule = unwrap_or (option_map (literal_holds holds p m place) (option_and_then (λ (x : Rule P). slice_get x.lits place.lit) rule)) false
@@ -100,10 +84,10 @@ module _ {P Packet : Type 0} (holds : P → Packet → Bool) (dump : Dump P) (p 
 
   abbrev places_in : ℕ → State → List Place
   places_in zero s = []
-  places_in (suc k) s = places_at s ++ places_then (places_in k) (step holds dump p m s)
+  places_in (suc k) s = places_at s ++ places_then (places_in k) (step holds dump p m policy s)
 
   finds_visit : (c n i : ℕ) (path : Path) (frames : List Frame) (rule : Rule P) (lit : Lit P) → rule_at dump c n ≡ Some rule → slice_get rule.lits i ≡ Some lit →
-      (j k : ℕ) (s : State) → j < k → after holds dump p m j s ≡ Some (At c n path frames) →
+      (j k : ℕ) (s : State) → j < k → after holds dump p m policy j s ≡ Some (At c n path frames) →
       list_any (same_place (record { steps = path ++ record { chain = c; rule = n } ∷ []; lit = i })) (places_in k s) ≡ true
   finds_visit c n i path frames rule lit e q j zero s l h = absurd (omega arith)
   finds_visit c n i path frames rule lit e q zero (suc k) s l h =
@@ -112,14 +96,14 @@ module _ {P Packet : Type 0} (holds : P → Packet → Bool) (dump : Dump P) (p 
       let found : list_any (same_place place) (places_at (At c n path frames)) ≡ true =
       ap (λ (o : Option (Rule P)). list_any (same_place place) (places_of place.steps o)) e
       ∙ subst (λ (x : ℕ). list_any (same_place (record { steps = place.steps; lit = x })) (places_from place.steps 0 rule.lits) ≡ true) (zero-add i) (finds_place place.steps 0 rule.lits i lit q) in
-      list_any-append (same_place place) (places_at s) (places_then (places_in k) (step holds dump p m s))
-      ∙ or_left (list_any (same_place place) (places_at s)) (list_any (same_place place) (places_then (places_in k) (step holds dump p m s)))
+      list_any-append (same_place place) (places_at s) (places_then (places_in k) (step holds dump p m policy s))
+      ∙ or_left (list_any (same_place place) (places_at s)) (list_any (same_place place) (places_then (places_in k) (step holds dump p m policy s)))
       (subst (λ (z : State). list_any (same_place place) (places_at z) ≡ true) at found)
   finds_visit c n i path frames rule lit e q (suc j) (suc k) s l h =
       let place : Place = record { steps = path ++ record { chain = c; rule = n } ∷ []; lit = i } in
-      option_and_then_some (after holds dump p m j) (step holds dump p m s) (At c n path frames) h (λ x is g.
-      list_any-append (same_place place) (places_at s) (places_then (places_in k) (step holds dump p m s))
-      ∙ or_right (list_any (same_place place) (places_at s)) (list_any (same_place place) (places_then (places_in k) (step holds dump p m s)))
+      option_and_then_some (after holds dump p m policy j) (step holds dump p m policy s) (At c n path frames) h (λ x is g.
+      list_any-append (same_place place) (places_at s) (places_then (places_in k) (step holds dump p m policy s))
+      ∙ or_right (list_any (same_place place) (places_at s)) (list_any (same_place place) (places_then (places_in k) (step holds dump p m policy s)))
       (subst (λ (o : Option State). list_any (same_place place) (places_then (places_in k) o) ≡ true) (sym is) (finds_visit c n i path frames rule lit e q j k x (omega arith) g)))
 
   -- the places of so many steps whose literals hold, known or unknown
@@ -128,33 +112,13 @@ module _ {P Packet : Type 0} (holds : P → Packet → Bool) (dump : Dump P) (p 
 
   -- there the meaning of true places says of each literal whether it holds
   pub true_there : (c n i : ℕ) (path : Path) (frames : List Frame) (rule : Rule P) (lit : Lit P) → rule_at dump c n ≡ Some rule → slice_get rule.lits i ≡ Some lit →
-      (j k : ℕ) (s : State) → j < k → after holds dump p m j s ≡ Some (At c n path frames) →
+      (j k : ℕ) (s : State) → j < k → after holds dump p m policy j s ≡ Some (At c n path frames) →
       literal_holds holds p m (record { steps = path ++ record { chain = c; rule = n } ∷ []; lit = i }) lit ≡ list_any (same_place (record { steps = path ++ record { chain = c; rule = n } ∷ []; lit = i })) (true_places k s)
   true_there c n i path frames rule lit e q j k s l h =
       let place : Place = record { steps = path ++ record { chain = c; rule = n } ∷ []; lit = i } in
       let kept = any-filter_same (same_place place) truth_at (truth_at place) (λ x t. ap truth_at (sym (place_from_same place x t))) (places_in k s) in
       let found = finds_visit c n i path frames rule lit e q j k s l h in
       sym (kept ∙ and_true (truth_at place) (list_any (same_place place) (places_in k s)) found ∙ truth_there path c n i rule lit e q)
-
-module _ {P : Type 0} (hides : Expr P → Bool) where
-  same_actions : (rules : List (Rule P)) → map (λ (rule : Rule P). rule.action) rules ≡ map (λ (rule : Rule P). rule.action) (map (hidden_rule hides) rules)
-  same_actions [] = refl
-  same_actions (rule ∷ rules) = ap (λ (xs : List _). rule.action ∷ xs) (same_actions rules)
-
-  same_shapes : (chains : List (Chain P)) → map shape_of chains ≡ map shape_of (map (hidden_chain hides) chains)
-  same_shapes [] = refl
-  same_shapes (here ∷ chains) = ap₂ (λ (a : _) (xs : List _). record { policy = here.policy; actions = a } ∷ xs) (same_actions here.rules) (same_shapes chains)
-
-  pub hidden_shape : (dump : Dump P) → SameShape dump (hidden_by hides dump)
-  hidden_shape dump = same_shapes dump.chains
-
-  by_chain : (n : ℕ) (o : Option (Chain P)) → option_and_then (λ (x : Chain P). slice_get x.rules n) (option_map (hidden_chain hides) o)
-      ≡ option_map (hidden_rule hides) (option_and_then (λ (x : Chain P). slice_get x.rules n) o)
-  by_chain n None = refl
-  by_chain n (Some here) = slice_get-map (hidden_rule hides) here.rules n
-
-  pub rule_at-hidden : (dump : Dump P) (c n : ℕ) → rule_at (hidden_by hides dump) c n ≡ option_map (hidden_rule hides) (rule_at dump c n)
-  rule_at-hidden dump c n = ap (option_and_then (λ (x : Chain P). slice_get x.rules n)) (slice_get-map (hidden_chain hides) dump.chains c) ∙ by_chain n (slice_get dump.chains c)
 
 module _ {P Packet : Type 0} (holds : P → Packet → Bool) (p : Packet) (m w : Meaning) (hides : Expr P → Bool) where
   by_test : (place : Place) (neg : Bool) (expr : Expr P) (b : Bool) → known_holds holds p neg expr ≡ list_any (same_place place) w →
@@ -167,45 +131,29 @@ module _ {P Packet : Type 0} (holds : P → Packet → Bool) (p : Packet) (m w :
   hides_alike place (Lit.Known neg expr) e = by_test place neg expr (hides expr) e
   hides_alike place (Lit.Unknown text) e = e
 
-module _ {P : Type 0} (hides : Expr P → Bool) where
-  rule_room : (rule : Rule P) → RuleHasRoom rule → RuleHasRoom (hidden_rule hides rule)
-  rule_room rule h = subst (λ (n : ℕ). n < 2 ^ 32) (sym (length-map rule.lits (hidden_literal hides))) h
-
-  chain_room : (here : Chain P) → ChainHasRoom here → ChainHasRoom (hidden_chain hides here)
-  chain_room here h = (
-    subst (λ (n : ℕ). n < 2 ^ 32) (sym (length-map here.rules (hidden_rule hides))) h.0,
-    All-map RuleHasRoom (hidden_rule hides) here.rules (All-weaker RuleHasRoom (λ rule. RuleHasRoom (hidden_rule hides rule)) rule_room here.rules h.1),
-  )
-
 module _ {P : Type 0} (dump : Dump P) where
-  pub room_stays : RoomStays dump
-  room_stays hides h = (
-    subst (λ (n : ℕ). n < 2 ^ 32) (sym (length-map dump.chains (hidden_chain hides))) h.0,
-    All-map ChainHasRoom (hidden_chain hides) dump.chains (All-weaker ChainHasRoom (λ here. ChainHasRoom (hidden_chain hides here)) (chain_room hides) dump.chains h.1),
-  )
-
-  pub calls_stay : CallsStay dump
-  calls_stay hides = (
-    length-map dump.chains (hidden_chain hides),
-    λ a b.
-        (calls_there dump (hidden_by hides dump) (hidden_shape hides dump) a b, calls_there (hidden_by hides dump) dump (sym (hidden_shape hides dump)) a b),
-  )
-
-  pub hidden_settled : HiddenSettled dump
-  hidden_settled hides chain = (settled_there dump (hidden_by hides dump) (hidden_shape hides dump) chain, settled_there (hidden_by hides dump) dump (sym (hidden_shape hides dump)) chain)
-
   module _ {Packet : Type 0} (holds : P → Packet → Bool) (chain : ℕ) (p : Packet) where
     -- the walk under a meaning, and that of the hidden dump under its true places, have the same states for so many steps
-    pub same_until : (hides : Expr P → Bool) (m : Meaning) (k : ℕ) → after holds dump p m k (At chain 0 [] []) ≡ after holds (hidden_by hides dump) p (true_places holds dump p m k (At chain 0 [] [])) k (At chain 0 [] [])
-    same_until hides m k =
-        let w = true_places holds dump p m k (At chain 0 [] []) in
-        same_after holds dump (hidden_by hides dump) p p m w (hidden_shape hides dump) k (At chain 0 [] []) (λ j c n path frames l e a b at_a at_b.
-        let is : b ≡ hidden_rule hides a = let q = rule_at-hidden hides dump c n in let r = ap (option_map (hidden_rule hides)) at_a in cc in
+    pub same_until : (hides : Expr P → Bool) (m : Meaning) (policy : Option Verdict) (k : ℕ) → after holds dump p m policy k (At chain 0 [] [])
+        ≡ after holds (hidden_by hides dump) p (true_places holds dump p m policy k (At chain 0 [] [])) policy k (At chain 0 [] [])
+    same_until hides m policy k =
+        let w = true_places holds dump p m policy k (At chain 0 [] []) in
+        same_after holds dump (hidden_by hides dump) p p m w policy (shape_stays dump (hidden_literal hides)) k (At chain 0 [] []) (λ j c n path frames l e a b at_a at_b.
+        let is : b ≡ mapped_rule (hidden_literal hides) a = let q = rule_at-mapped (hidden_literal hides) dump c n in let r = ap (option_map (mapped_rule (hidden_literal hides))) at_a in cc in
         match_alike holds p p m w (path ++ record { chain = c; rule = n } ∷ []) (hidden_literal hides) a b (ap (λ (x : Rule P). x.lits) is)
-        (λ i lit q. hides_alike holds p m w hides (record { steps = path ++ record { chain = c; rule = n } ∷ []; lit = i }) lit (true_there holds dump p m c n i path frames a lit at_a q j k (At chain 0 [] []) l e)))
+        (λ i lit q. hides_alike holds p m w hides (record { steps = path ++ record { chain = c; rule = n } ∷ []; lit = i }) lit
+        (true_there holds dump p m policy c n i path frames a lit at_a q j k (At chain 0 [] []) l e)))
 
     pub verdicts_stay : VerdictsStay dump holds chain p
-    verdicts_stay hides m v h = (true_places holds dump p m h.0 (At chain 0 [] []), (h.0, sym (same_until hides m h.0) ∙ h.1))
+    verdicts_stay hides m v h =
+        let w = true_places holds dump p m (policy_of dump chain) h.0 (At chain 0 [] []) in (
+          w,
+          (
+            h.0,
+            subst (λ (policy : Option Verdict). after holds (hidden_by hides dump) p w policy h.0 (At chain 0 [] []) ≡ Some (Ended v)) (sym (policies_stay dump (hidden_literal hides) chain))
+                (sym (same_until hides m (policy_of dump chain) h.0) ∙ h.1),
+          ),
+        )
 
     pub may_widens : MayWidens dump holds chain p
     may_widens hides h = verdicts_stay hides h.0 Accept h.1
@@ -218,22 +166,9 @@ module _ {P : Type 0} (dump : Dump P) where
         subst (λ (v : Verdict). Walks holds dump p m chain v) e h.1
 
 -- nothing is hidden
-module _ {P : Type 0} (hides : Expr P → Bool) (none : (expr : Expr P) → hides expr ≡ false) where
-  kept_literal : (lit : Lit P) → hidden_literal hides lit ≡ lit
-  kept_literal (Lit.Known neg expr) = rw (none expr) refl
-  kept_literal (Lit.Unknown text) = refl
-
-  kept_literals : (lits : List (Lit P)) → map (hidden_literal hides) lits ≡ lits
-  kept_literals [] = refl
-  kept_literals (lit ∷ lits) = ap₂ (λ (x : Lit P) (xs : List (Lit P)). x ∷ xs) (kept_literal lit) (kept_literals lits)
-
-  kept_rules : (rules : List (Rule P)) → map (hidden_rule hides) rules ≡ rules
-  kept_rules [] = refl
-  kept_rules (rule ∷ rules) = λ i. record { lits = kept_literals rule.lits i; action = rule.action; line = rule.line } ∷ kept_rules rules i
-
-  kept_chains : (chains : List (Chain P)) → map (hidden_chain hides) chains ≡ chains
-  kept_chains [] = refl
-  kept_chains (here ∷ chains) = λ i. record { name = here.name; policy = here.policy; rules = kept_rules here.rules i } ∷ kept_chains chains i
+kept_literal : {P : Type 0} (hides : Expr P → Bool) → ((expr : Expr P) → hides expr ≡ false) → (lit : Lit P) → hidden_literal hides lit ≡ lit
+kept_literal hides none (Lit.Known neg expr) = rw (none expr) refl
+kept_literal hides none (Lit.Unknown text) = refl
 
 pub nothing_hidden : {P : Type 0} (dump : Dump P) → NothingHidden dump
-nothing_hidden dump hides none = λ i. record { chains = kept_chains hides none dump.chains i }
+nothing_hidden dump hides none = same_stays dump (hidden_literal hides) (kept_literal hides none)

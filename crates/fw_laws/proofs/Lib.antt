@@ -4,8 +4,10 @@ pub mod Deciding
 pub mod Hiding
 pub mod Literals
 pub mod LoneChain
+pub mod Mapping
 pub mod Moves
 pub mod SamePlace
 pub mod Settle
+pub mod Order
 pub mod Twice
 pub mod TwoPackets

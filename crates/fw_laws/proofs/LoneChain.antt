@@ -1,5 +1,6 @@
 -- A chain without rules is settled.
-use Rattle.std.specs.Prelude.{ℕ, zero, suc, ◌≡◌, List, [], ◌∷◌, None, Some, slice_get, refl}
+use Rattle.std.specs.Prelude.{ℕ, zero, suc, ◌≡◌, List, [], ◌∷◌, None, Some, slice_get}
+use Rattle.std.specs.Option.{option_and_then}
 use Rattle.std.proofs.Common.{ap, arith}
 use Rattle.fw_rule.specs.declared.rule.Verdict.TheVariants.{Accept}
 use Rattle.fw_rule.specs.declared.rule.Rule.{Rule}
@@ -24,7 +25,7 @@ module _ {P : Type 0} (dump : Dump P) (is : IsLone dump) where
 
   pub lone_settled : Settled dump 0
   lone_settled = record {
-    policy = (record { name = []; policy = Some Accept; rules = [] }, Accept, ap (λ (xs : List (Chain P)). slice_get xs 0) is, refl);
+    policy = (Accept, ap (λ (xs : List (Chain P)). option_and_then (λ (here : Chain P). here.policy) (slice_get xs 0)) is);
     named = λ a b r q. absurd (empty a q.0 q.1);
     known_targets = λ a rule name r h e. empty a rule h;
     no_loop = λ a b r q l. empty a q.0 q.1;

@@ -8,7 +8,7 @@ use Rattle.fw_rule.specs.declared.rule.Action.{Action}
 use Rattle.fw_rule.specs.declared.rule.Rule.{Rule}
 use Rattle.fw_rule.specs.declared.rule.Chain.{Chain}
 use Rattle.fw_rule.specs.declared.rule.Dump.{Dump}
-use Rattle.fw_rule.specs.Walk.{Path, Meaning, State, At, Ended, Frame, matches, act, back, step, step_at, after, Calls}
+use Rattle.fw_rule.specs.Walk.{Path, Meaning, State, At, Ended, Frame, matches, act, back, step, step_at, after, target_of, Calls}
 use Rattle.fw_rule.proofs.Ends.{contains_at}
 
 module _ {P : Type 0} (dump : Dump P) (c next : ℕ) (path : Path) (frames : List Frame) (t : State) where
@@ -24,7 +24,7 @@ module _ {P : Type 0} (dump : Dump P) (c next : ℕ) (path : Path) (frames : Lis
   by_back (Some v) [] e q = Done v cc
   by_back None [] e q = cc
 
-  by_action : (policy : Option Verdict) (action : Action) → ((k : ℕ) → action ≡ Action.Call k → Calls dump c k) → act policy c next path frames action ≡ Some t → Move
+  by_action : (policy : Option Verdict) (action : Action) → ((k : ℕ) → target_of action ≡ Some k → Calls dump c k) → act policy c next path frames action ≡ Some t → Move
   by_action policy Action.Accept f q = Done Accept cc
   by_action policy Action.Drop f q = Done Drop cc
   by_action policy Action.Pass f q = On cc
@@ -32,25 +32,26 @@ module _ {P : Type 0} (dump : Dump P) (c next : ℕ) (path : Path) (frames : Lis
   by_action policy (Action.Call k) f q = Into k (f k refl) cc
   by_action policy (Action.Other name) f q = cc
 
-  by_match : (policy : Option Verdict) (action : Action) (b : Bool) → ((k : ℕ) → action ≡ Action.Call k → Calls dump c k) →
+  by_match : (policy : Option Verdict) (action : Action) (b : Bool) → ((k : ℕ) → target_of action ≡ Some k → Calls dump c k) →
       (if b then act policy c next path frames action else Some (At c (next + 1) path frames)) ≡ Some t → Move
   by_match policy action true f q = by_action policy action f q
   by_match policy action false f q = On cc
 
-  module _ {Packet : Type 0} (holds : P → Packet → Bool) (p : Packet) (m : Meaning) where
+  module _ {Packet : Type 0} (holds : P → Packet → Bool) (p : Packet) (m : Meaning) (policy : Option Verdict) where
     by_rule : (here : Chain P) → slice_get dump.chains c ≡ Some here → (o : Option (Rule P)) → slice_get here.rules next ≡ o →
-        step_at holds dump p m c next path frames here o ≡ Some t → Move
-    by_rule here at_c None e q = by_back here.policy frames refl q
+        step_at holds dump p m policy c next path frames o ≡ Some t → Move
+    by_rule here at_c None e q = by_back policy frames refl q
     by_rule here at_c (Some rule) e q =
-        by_match here.policy rule.action (matches holds p m (path ++ record { chain = c; rule = next } ∷ []) rule)
+        by_match policy rule.action (matches holds p m (path ++ record { chain = c; rule = next } ∷ []) rule)
         (λ k a. (rule, (here, at_c, contains_at here.rules next rule e), a)) q
 
-    pub move : step holds dump p m (At c next path frames) ≡ Some t → Move
-    move q = option_and_then_some (λ (here : Chain P). step_at holds dump p m c next path frames here (slice_get here.rules next)) (slice_get dump.chains c) t q
+    pub move : step holds dump p m policy (At c next path frames) ≡ Some t → Move
+    move q = option_and_then_some (λ (here : Chain P). step_at holds dump p m policy c next path frames (slice_get here.rules next)) (slice_get dump.chains c) t q
         (λ here at_c h. by_rule here at_c (slice_get here.rules next) refl h)
 
-module _ {P Packet : Type 0} (holds : P → Packet → Bool) (dump : Dump P) (p : Packet) (m : Meaning) where
+module _ {P Packet : Type 0} (holds : P → Packet → Bool) (dump : Dump P) (p : Packet) (m : Meaning) (policy : Option Verdict) where
   -- what each step keeps, the walk keeps
-  pub along : (I : State → Type 0) → ((s t : State) → I s → step holds dump p m s ≡ Some t → I t) → (k : ℕ) (s t : State) → I s → after holds dump p m k s ≡ Some t → I t
+  pub along : (I : State → Type 0) → ((s t : State) → I s → step holds dump p m policy s ≡ Some t → I t) → (k : ℕ) (s t : State) → I s → after holds dump p m policy k s ≡ Some t → I t
   along I keeps zero s t i e = let q : s ≡ t = cc in subst I q i
-  along I keeps (suc k) s t i e = option_and_then_some (after holds dump p m k) (step holds dump p m s) t e (λ x is h. along I keeps k x t (keeps s x i is) h)
+  along I keeps (suc k) s t i e =
+      option_and_then_some (after holds dump p m policy k) (step holds dump p m policy s) t e (λ x is h. along I keeps k x t (keeps s x i is) h)

@@ -7,10 +7,10 @@ use Rattle.std.proofs.lemmas.Option.{slice_get-get_or}
 use Rattle.fw_rule.specs.declared.rule.Rule.{Rule}
 use Rattle.fw_rule.specs.declared.rule.Chain.{Chain}
 use Rattle.fw_rule.specs.declared.rule.Dump.{Dump}
-use Rattle.fw_rule.specs.Walk.{RuleOf, Calls, Reaches, Here, Over, Settled}
+use Rattle.fw_rule.specs.Walk.{target_of, RuleOf, Calls, Reaches, Here, Over, Settled}
 use Rattle.fw_rule.proofs.Ends.{contains_at}
-use Rattle.fw_laws.specs.Shape.{Shape, shape_of, SameShape}
-use Rattle.fw_laws.proofs.Alike.{chain_shapes, rule_actions}
+use Rattle.fw_laws.specs.Shape.{shape_of, SameShape}
+use Rattle.fw_laws.proofs.Alike.{same_policy, chain_shapes, rule_actions}
 
 module _ {A B C : Type 0} where
   -- what stands under the same image
@@ -32,7 +32,7 @@ module _ {P : Type 0} (one other : Dump P) (shape : SameShape one other) where
       (x.0, (t.0, t.1, contains_at t.0.rules h.2.0 x.0 x.1), x.2)
 
   pub calls_there : (a b : ℕ) → Calls one a b → Calls other a b
-  calls_there a b q = let x = rule_there a q.0 q.1 in (x.0, x.1, sym x.2 ∙ q.2)
+  calls_there a b q = let x = rule_there a q.0 q.1 in (x.0, x.1, sym (ap target_of x.2) ∙ q.2)
 
   pub reaches_there : (a b : ℕ) → Reaches one a b → Reaches other a b
   reaches_there a b Here = Here
@@ -47,9 +47,8 @@ module _ {P : Type 0} (one other : Dump P) (shape : SameShape one other) where
 
   pub settled_there : (c : ℕ) → Settled one c → Settled other c
   settled_there c s =
-      let t = chain_there one other shape c s.policy.0 s.policy.2 in
       record {
-        policy = (t.0, s.policy.1, t.1, sym (ap (λ (x : Shape). x.policy) t.2) ∙ s.policy.3);
+        policy = (s.policy.0, sym (same_policy one other shape c) ∙ s.policy.1);
         named = λ a b r q. subst (λ (n : ℕ). b < n) as_many (s.named a b (reaches_there other one back_shape c a r) (calls_there other one back_shape a b q));
         known_targets = λ a rule name r h e. let x = rule_there other one back_shape a rule h in
             s.known_targets a x.0 name (reaches_there other one back_shape c a r) x.1 (sym x.2 ∙ e);

@@ -8,7 +8,7 @@ use Rattle.fw_rule.specs.declared.rule.Verdict.{Verdict}
 use Rattle.fw_rule.specs.declared.rule.Lit.{Lit}
 use Rattle.fw_rule.specs.declared.rule.Rule.{Rule}
 use Rattle.fw_rule.specs.declared.rule.Dump.{Dump}
-use Rattle.fw_rule.specs.Walk.{Path, Meaning, At, known_holds, Walks, RuleOf, Reaches}
+use Rattle.fw_rule.specs.Walk.{Path, Meaning, At, known_holds, policy_of, Walks, RuleOf, Reaches}
 use Rattle.fw_rule.proofs.Ends.{contains_at}
 use Rattle.fw_laws.specs.Packets.{KnownAlike, SameWalk, SameAnswers}
 use Rattle.fw_laws.proofs.Alike.{same_after}
@@ -27,10 +27,10 @@ module _ {P Packet : Type 0} (holds : P → Packet → Bool) where
     by_literal p q alike m c path rule r of i (Lit.Unknown text) e = refl
 
     pub same_walk : (p q : Packet) → SameWalk holds dump asked p q
-    same_walk p q alike m k = same_after holds dump dump p q m m refl k (At asked 0 [] []) (λ j c n path frames l e a b at_a at_b.
+    same_walk p q alike m k = same_after holds dump dump p q m m (policy_of dump asked) refl k (At asked 0 [] []) (λ j c n path frames l e a b at_a at_b.
         let same : a ≡ b = cc in
         match_alike holds p q m m (path ++ record { chain = c; rule = n } ∷ []) (λ lit. lit) a b (ap (λ (x : Rule P). x.lits) (sym same) ∙ sym (map-id a.lits))
-        (λ i lit s. by_literal p q alike m c (path ++ record { chain = c; rule = n } ∷ []) a (stands_reached dump asked holds p m j c n path frames e) (rule_of_at dump asked c n a at_a) i lit s))
+        (λ i lit s. by_literal p q alike m c (path ++ record { chain = c; rule = n } ∷ []) a (stands_reached dump asked holds p m (policy_of dump asked) j c n path frames e) (rule_of_at dump asked c n a at_a) i lit s))
 
     from_other : (p q : Packet) → KnownAlike holds dump asked p q → (m : Meaning) (v : Verdict) → Walks holds dump p m asked v → Walks holds dump q m asked v
     from_other p q alike m v h = (h.0, sym (same_walk p q alike m h.0) ∙ h.1)

@@ -1,27 +1,14 @@
--- What hiding keeps.
-use Rattle.std.specs.Prelude.{ℕ, ◌≡◌, ◌↔◌, Bool, false, length}
+-- What hiding does to the walks.
+use Rattle.std.specs.Prelude.{ℕ, ◌≡◌, Bool, false}
 use Rattle.match_expr.specs.declared.expr.Expr.{Expr}
 use Rattle.fw_rule.specs.declared.rule.Verdict.{Verdict}
 use Rattle.fw_rule.specs.declared.rule.Dump.{Dump}
-use Rattle.fw_rule.specs.Walk.{Meaning, Walks, Calls, HasRoom, Settled, May, Must, hidden_by}
+use Rattle.fw_rule.specs.Walk.{Meaning, Walks, May, Must, hidden_by}
 
 module _ {P : Type 0} (dump : Dump P) where
   -- where the test of what is hidden is never true the dump stays as it is
   abbrev pub NothingHidden : Type 0
   NothingHidden = (hides : Expr P → Bool) → ((expr : Expr P) → hides expr ≡ false) → hidden_by hides dump ≡ dump
-
-  -- whatever is hidden, a chain is settled before and after or neither time
-  abbrev pub HiddenSettled : Type 0
-  HiddenSettled = (hides : Expr P → Bool) (chain : ℕ) → Settled dump chain ↔ Settled (hidden_by hides dump) chain
-
-  -- whatever is hidden, the numbers of chains, rules and literals fit their types where they did
-  abbrev pub RoomStays : Type 0
-  RoomStays = (hides : Expr P → Bool) → HasRoom dump → HasRoom (hidden_by hides dump)
-
-  -- whatever is hidden, there are as many chains, and each calls those that it did
-  abbrev pub CallsStay : Type 0
-  CallsStay = (hides : Expr P → Bool) → (length (hidden_by hides dump).chains ≡ length dump.chains)
-      × ((a b : ℕ) → Calls dump a b ↔ Calls (hidden_by hides dump) a b)
 
   module _ {Packet : Type 0} (holds : P → Packet → Bool) (chain : ℕ) (p : Packet) where
     -- each verdict of a walk is, whatever is hidden, the verdict of some walk of the hidden dump

@@ -5,7 +5,7 @@ use Rattle.match_expr.specs.declared.expr.Expr.{Expr}
 use Rattle.fw_rule.specs.declared.rule.Lit.{Lit}
 use Rattle.fw_rule.specs.declared.rule.Rule.{Rule}
 use Rattle.fw_rule.specs.declared.rule.Dump.{Dump}
-use Rattle.fw_rule.specs.Walk.{Meaning, At, after, RuleOf, Reaches, May, Must}
+use Rattle.fw_rule.specs.Walk.{Meaning, At, policy_of, after, RuleOf, Reaches, May, Must}
 
 module _ {P Packet : Type 0} (holds : P → Packet → Bool) (dump : Dump P) (asked : ℕ) (p q : Packet) where
   -- the known literals of the rules that are reached hold of both packets or of neither
@@ -15,7 +15,9 @@ module _ {P Packet : Type 0} (holds : P → Packet → Bool) (dump : Dump P) (as
 
   -- under each meaning both have the same walk
   abbrev pub SameWalk : Type 0
-  SameWalk = KnownAlike → (m : Meaning) (k : ℕ) → after holds dump p m k (At asked 0 [] []) ≡ after holds dump q m k (At asked 0 [] [])
+  SameWalk = KnownAlike → (m : Meaning) (k : ℕ) →
+      after holds dump p m (policy_of dump asked) k (At asked 0 [] [])
+      ≡ after holds dump q m (policy_of dump asked) k (At asked 0 [] [])
 
   -- both or neither may be accepted, and both or neither must be
   abbrev pub SameAnswers : Type 0

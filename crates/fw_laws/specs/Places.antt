@@ -5,7 +5,7 @@ use Rattle.fw_rule.specs.declared.rule.Lit.{Lit}
 use Rattle.fw_rule.specs.declared.rule.Rule.{Rule}
 use Rattle.fw_rule.specs.declared.rule.Dump.{Dump}
 use Rattle.fw_rule.specs.declared.rule.Place.{Place}
-use Rattle.fw_rule.specs.Walk.{Path, Meaning, At, Frame, same_place, after}
+use Rattle.fw_rule.specs.Walk.{Path, Meaning, At, Frame, same_place, policy_of, after}
 use Rattle.fw_laws.specs.Shape.{rule_at}
 
 module _ {P Packet : Type 0} (holds : P → Packet → Bool) (dump : Dump P) (p : Packet) where
@@ -15,7 +15,8 @@ module _ {P Packet : Type 0} (holds : P → Packet → Bool) (dump : Dump P) (p 
     pub next : ℕ
     pub calls : Path
     pub frames : List Frame
-    pub stands : after holds dump p m count (At asked 0 [] []) ≡ Some (At chain next calls frames)
+    pub stands : after holds dump p m (policy_of dump asked) count (At asked 0 [] [])
+        ≡ Some (At chain next calls frames)
     pub steps : place.steps ≡ calls ++ record { chain = chain; rule = next } ∷ []
 
   -- the walk of the asked chain comes to the rule of the place, and the literal there is unknown; whether other literals of the rule hold doesn't matter
@@ -38,4 +39,5 @@ module _ {P Packet : Type 0} (holds : P → Packet → Bool) (dump : Dump P) (p 
   -- two meanings that agree on the places that the walk under the first asks for have the same walk
   abbrev pub OthersDontMatter : Type 0
   OthersDontMatter = (m w : Meaning) (asked : ℕ) → AgreeOnWay m w asked →
-      (k : ℕ) → after holds dump p m k (At asked 0 [] []) ≡ after holds dump p w k (At asked 0 [] [])
+      (k : ℕ) → after holds dump p m (policy_of dump asked) k (At asked 0 [] [])
+      ≡ after holds dump p w (policy_of dump asked) k (At asked 0 [] [])

@@ -31,9 +31,10 @@ module _ {P Packet : Type 0} (holds : P → Packet → Bool) where
   MatchAlike one other p m = (chain n : ℕ) (path : Path) (a b : Rule P) → rule_at one chain n ≡ Some a → rule_at other chain n ≡ Some b →
       matches holds p m path a ≡ matches holds p m path b
 
-  -- where the rules match alike, the walks have the same states
+  -- where the rules match alike, the walks have the same states, whatever the policy
   abbrev pub SameStates : Dump P → Dump P → Packet → Type 0
-  SameStates one other p = (m : Meaning) → MatchAlike one other p m → (k : ℕ) (s : State) → after holds one p m k s ≡ after holds other p m k s
+  SameStates one other p = (m : Meaning) → MatchAlike one other p m → (policy : Option Verdict) (k : ℕ) (s : State) →
+      after holds one p m policy k s ≡ after holds other p m policy k s
 
   -- where the rules match alike, the walks have the same verdict
   abbrev pub SameVerdict : Dump P → Dump P → Packet → Type 0

@@ -1,5 +1,5 @@
 ghost use Rattle.fw_rule.specs.Walk.{Settled};
-ghost use Rattle.fw_laws.specs.Hidden.{NothingHidden, HiddenSettled, RoomStays, CallsStay, VerdictsStay, MayWidens, MustNarrows};
+ghost use Rattle.fw_laws.specs.Hidden.{NothingHidden, VerdictsStay, MayWidens, MustNarrows};
 
 use fw_rule::Dump;
 use match_expr::Primitive;
@@ -7,18 +7,6 @@ use match_expr::Primitive;
 /// Where the test of what is hidden is never true the dump stays as it is.
 pub fn nothing_hidden<P: Primitive>(dump: &Dump<P>)
     ensures { NothingHidden dump.now }
-{}
-
-/// Whatever is hidden, a chain is settled before and after or neither time.
-pub fn hidden_is_settled<P: Primitive>(dump: &Dump<P>)
-    ensures { HiddenSettled dump.now }
-{}
-
-/// Whatever is hidden, the numbers of chains, rules and literals fit their types where they did, and the same chains call
-/// the same chains.
-pub fn hiding_keeps_numbers<P: Primitive>(dump: &Dump<P>)
-    ensures room { RoomStays dump.now }
-    ensures calls { CallsStay dump.now }
 {}
 
 /// Each verdict of a walk is, whatever is hidden, the verdict of some walk of the hidden dump. So what may be accepted may be accepted there.

@@ -52,8 +52,7 @@ fn the_laws_can_be_called_at_a_settled_dump(rt: HostRuntime) -> Result<(), Fail>
     known_is_decided(&dump, 0, &1);
     packets_alike(&dump, 0, &1, &2);
     nothing_hidden(&dump);
-    hidden_is_settled(&dump);
-    hiding_keeps_numbers(&dump);
+    mapping_keeps_the_rest(&dump);
     hiding_widens_may(&dump, 0, &1);
     hiding_narrows_must(&dump, 0, &1);
     Ok(())

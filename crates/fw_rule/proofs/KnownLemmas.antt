@@ -1,6 +1,7 @@
 -- The known part of a rule holds exactly where each known literal does.
 use Rattle.std.specs.Prelude.{ℕ, zero, suc, ◌<◌, ◌≡◌, length, ◌↔◌, Bool, true, false, ◌&&◌, if◌then◌else◌, List, [], ◌∷◌, map, IsTrue, Contains, refl}
-use Rattle.std.proofs.Common.{subst, sym, ◌∙◌, arith, get_or, true≢false}
+use Rattle.std.proofs.Common.{subst, sym, ◌∙◌, arith, get_or}
+use Rattle.basics.proofs.Truths.{both_true}
 use Rattle.match_expr.specs.Meaning.{eval_of, every}
 use Rattle.match_expr.proofs.Equations.{eval-All, eval-Not}
 use Rattle.match_expr.specs.declared.expr.Expr.{Expr}
@@ -28,19 +29,12 @@ module _ {P Packet : Type 0} (holds : P → Packet → Bool) (p : Packet) where
   parts_hold (Lit.Known neg e ∷ lits) = rw (part_holds neg e, parts_hold lits) refl
   parts_hold (Lit.Unknown text ∷ lits) = parts_hold lits
 
-  left : (a b : Bool) → (a && b) ≡ true → a ≡ true
-  left true b e = refl
-  left false b e = e
-
-  right : (a b : Bool) → (a && b) ≡ true → b ≡ true
-  right true b e = e
-  right false b e = absurd (true≢false (sym e))
-
   first : (lit : Lit P) (lits : List (Lit P)) (neg : Bool) (e : Expr P) → lit ≡ Lit.Known neg e → all_known (lit ∷ lits) ≡ true → known_holds holds p neg e ≡ true
-  first lit lits neg e same t = left (known_holds holds p neg e) (all_known lits) (subst (λ (z : Lit P). all_known (z ∷ lits) ≡ true) same t)
+  first lit lits neg e same t =
+      (both_true (known_holds holds p neg e) (all_known lits) (subst (λ (z : Lit P). all_known (z ∷ lits) ≡ true) same t)).0
 
   later : (lit : Lit P) (lits : List (Lit P)) → all_known (lit ∷ lits) ≡ true → all_known lits ≡ true
-  later (Lit.Known neg e) lits t = right (known_holds holds p neg e) (all_known lits) t
+  later (Lit.Known neg e) lits t = (both_true (known_holds holds p neg e) (all_known lits) t).1
   later (Lit.Unknown text) lits t = t
 
   each_holds : (lits : List (Lit P)) (k : ℕ) (neg : Bool) (e : Expr P) → k < length lits → get_or lits k (Lit.Known neg e) ≡ Lit.Known neg e → all_known lits ≡ true →

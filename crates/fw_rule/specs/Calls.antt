@@ -1,11 +1,12 @@
 -- Chains that call one another, and which dumps a walk can go through.
-use Rattle.std.specs.Prelude.{ℕ, suc, ◌^◌, ◌<◌, ◌≡◌, List, length, Option, Some, slice_get, Contains, All, position}
+use Rattle.std.specs.Prelude.{ℕ, suc, ◌^◌, ◌<◌, ◌≡◌, List, length, Option, None, Some, slice_get, Contains, All, position}
 use Rattle.std.specs.Str.{bytes_eq}
 use Rattle.fw_rule.specs.declared.rule.Verdict.{Verdict}
 use Rattle.fw_rule.specs.declared.rule.Action.{Action}
 use Rattle.fw_rule.specs.declared.rule.Rule.{Rule}
 use Rattle.fw_rule.specs.declared.rule.Chain.{Chain}
 use Rattle.fw_rule.specs.declared.rule.Dump.{Dump}
+use Rattle.fw_rule.specs.Steps.{policy_of}
 
 module _ {P : Type 0} where
   -- a rule has fewer than 2^32 literals
@@ -24,14 +25,23 @@ module _ {P : Type 0} where
   abbrev pub chain_named : List ℕ → Dump P → Option ℕ
   chain_named name dump = position (λ (here : Chain P). bytes_eq here.name name) dump.chains
 
+-- the chain that an action leads to, where it leads to one
+abbrev pub target_of : Action → Option ℕ
+target_of Action.Accept = None
+target_of Action.Drop = None
+target_of Action.Pass = None
+target_of Action.Back = None
+target_of (Action.Call chain) = Some chain
+target_of (Action.Other name) = None
+
 module _ {P : Type 0} (dump : Dump P) where
   -- the rule stands in the chain of this number
   abbrev pub RuleOf : ℕ → Rule P → Type 0
   RuleOf chain rule = (here : Chain P) × (slice_get dump.chains chain ≡ Some here) × Contains here.rules rule
 
-  -- a rule of the one chain calls the other, whether it matches or not
+  -- a rule of the one chain leads to the other, whether it matches or not
   abbrev pub Calls : ℕ → ℕ → Type 0
-  Calls from to = (rule : Rule P) × RuleOf from rule × (rule.action ≡ Action.Call to)
+  Calls from to = (rule : Rule P) × RuleOf from rule × (target_of rule.action ≡ Some to)
 
   -- calls lead from the one chain to the other; from each chain to itself over no call
   pub data Reaches : ℕ → ℕ → Type 0 where
@@ -40,7 +50,7 @@ module _ {P : Type 0} (dump : Dump P) where
 
   -- a chain is settled where it has a policy, and among the chains that it reaches, itself too, calls name chains, no target is unsupported, and no chain calls itself over any path
   pub record Settled (chain : ℕ) : Type 0 where
-    pub policy : (here : Chain P) × (v : Verdict) × (slice_get dump.chains chain ≡ Some here) × (here.policy ≡ Some v)
+    pub policy : (v : Verdict) × (policy_of dump chain ≡ Some v)
     pub named : (a b : ℕ) → Reaches chain a → Calls a b → b < length dump.chains
     pub known_targets : (a : ℕ) (rule : Rule P) (name : List ℕ) → Reaches chain a → RuleOf a rule → rule.action ≡ Action.Other name → ⊥
     pub no_loop : (a b : ℕ) → Reaches chain a → Calls a b → Reaches b a → ⊥

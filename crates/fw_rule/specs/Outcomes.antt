@@ -25,7 +25,7 @@ module _ {P Packet : Type 0} (holds : P → Packet → Bool) (dump : Dump P) (p 
       (slice_get dump.chains chain ≡ Some here) × (slice_get here.rules next ≡ Some rule) ×
       (matches holds p m (path ++ record { chain = chain; rule = next } ∷ []) rule ≡ true) × (rule.action ≡ action)
 
-  -- what a state gives: a rule's verdict; or, without frames, the end of the chain that the walk began in, past its last rule or at Back
+  -- what a state gives: a rule's verdict; or, without frames, the end: past the last rule of the chain that the walk stands in, or at Back there
   abbrev pub Gives : State → Outcome → Type 0
   Gives (At chain next path frames) (Some Accept) = MatchesAt chain next path Action.Accept
   Gives (At chain next path frames) (Some Drop) = MatchesAt chain next path Action.Drop
@@ -33,9 +33,11 @@ module _ {P Packet : Type 0} (holds : P → Packet → Bool) (dump : Dump P) (p 
   Gives (At chain next path (f ∷ frames)) None = ⊥
   Gives (Ended v) o = ⊥
 
-  -- the walk that begins there without frames meets the outcome
+  -- the walk that begins there without frames meets the outcome. It is looked at before it has a verdict, so its policy
+  -- doesn't matter
   abbrev pub Meets : ℕ → ℕ → Path → Outcome → Type 0
-  Meets chain next path o = (k : ℕ) × (s : State) × (after holds dump p m k (At chain next path []) ≡ Some s) × Gives s o
+  Meets chain next path o =
+      (k : ℕ) × (s : State) × (after holds dump p m None k (At chain next path []) ≡ Some s) × Gives s o
 
 module _ {P Packet : Type 0} (holds : P → Packet → Bool) (dump : Dump P) (p : Packet) where
   -- an outcome is possible where some meaning's walk meets it
@@ -61,6 +63,7 @@ abbrev pub outcome_of : Outcome → Option Verdict → List Frame → Option Sta
 outcome_of (Some v) policy frames = Some (Ended v)
 outcome_of None policy frames = back policy frames
 
--- from there on the walk comes to the outcome, whatever the frames
+-- from there on the walk, whose policy is this, comes to the outcome, whatever the frames
 abbrev pub ComesTo : {P Packet : Type 0} → (P → Packet → Bool) → Dump P → Packet → Meaning → ℕ → ℕ → Path → Option Verdict → Outcome → Type 0
-ComesTo holds dump p m chain next path policy o = (frames : List Frame) → (k : ℕ) × (after holds dump p m k (At chain next path frames) ≡ outcome_of o policy frames)
+ComesTo holds dump p m chain next path policy o = (frames : List Frame) →
+    (k : ℕ) × (after holds dump p m policy k (At chain next path frames) ≡ outcome_of o policy frames)

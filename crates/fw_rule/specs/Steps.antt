@@ -21,13 +21,15 @@ pub data State : Type 0 where
   At : (chain : ℕ) (next : ℕ) (path : Path) (frames : List Frame) → State
   Ended : Verdict → State
 
--- from a chain's end, or Back in it: to the last frame, which is taken off; without frames to the verdict of the chain's policy
+-- from a chain's end, or Back in it: to the last frame, which is taken off; without frames to the verdict of this policy,
+-- that of the chain that the walk began in
 abbrev pub back : Option Verdict → List Frame → Option State
 back policy (f ∷ frames) = Some (At f.chain f.next f.path frames)
 back (Some v) [] = Some (Ended v)
 back None [] = None
 
--- what a rule that matches does, as the rule `next` of a chain with this policy: there is no step at an unsupported target
+-- what a rule that matches does, as the rule `next` of a chain, where the walk's policy is this: there is no step at an
+-- unsupported target
 abbrev pub act : Option Verdict → ℕ → ℕ → Path → List Frame → Action → Option State
 act policy chain next path frames Action.Accept = Some (Ended Accept)
 act policy chain next path frames Action.Drop = Some (Ended Drop)
@@ -37,18 +39,25 @@ act policy chain next path frames (Action.Call k) =
     Some (At k 0 (path ++ record { chain = chain; rule = next } ∷ []) (record { chain = chain; next = next + 1; path = path } ∷ frames))
 act policy chain next path frames (Action.Other name) = None
 
-module _ {P Packet : Type 0} (holds : P → Packet → Bool) (dump : Dump P) (p : Packet) (m : Meaning) where
+-- the policy of the chain of this number, where there is such a chain and it has one
+abbrev pub policy_of : {P : Type 0} → Dump P → ℕ → Option Verdict
+policy_of {P} dump chain = option_and_then (λ (here : Chain P). here.policy) (slice_get dump.chains chain)
+
+-- a walk, where the chain that it began in has this policy
+module _ {P Packet : Type 0} (holds : P → Packet → Bool) (dump : Dump P) (p : Packet) (m : Meaning)
+    (policy : Option Verdict) where
   -- one step in a chain at the rule, if there is one: past the last rule back, at a rule that doesn't match to the next one, else what the rule does
-  abbrev pub step_at : ℕ → ℕ → Path → List Frame → Chain P → Option (Rule P) → Option State
-  step_at chain next path frames here None = back here.policy frames
-  step_at chain next path frames here (Some rule) =
+  abbrev pub step_at : ℕ → ℕ → Path → List Frame → Option (Rule P) → Option State
+  step_at chain next path frames None = back policy frames
+  step_at chain next path frames (Some rule) =
       if matches holds p m (path ++ record { chain = chain; rule = next } ∷ []) rule
-      then act here.policy chain next path frames rule.action
+      then act policy chain next path frames rule.action
       else Some (At chain (next + 1) path frames)
 
   -- the state after one step, if there is a step
   abbrev pub step : State → Option State
-  step (At chain next path frames) = option_and_then (λ (here : Chain P). step_at chain next path frames here (slice_get here.rules next)) (slice_get dump.chains chain)
+  step (At chain next path frames) =
+      option_and_then (λ (here : Chain P). step_at chain next path frames (slice_get here.rules next)) (slice_get dump.chains chain)
   step (Ended v) = None
 
   -- the state after so many steps, if there are so many
@@ -56,6 +65,8 @@ module _ {P Packet : Type 0} (holds : P → Packet → Bool) (dump : Dump P) (p 
   after zero s = Some s
   after (suc k) s = option_and_then (after k) (step s)
 
-  -- the walk of a chain begins before its first rule, with no path and no frames; after some number of steps it has the verdict
-  abbrev pub Walks : ℕ → Verdict → Type 0
-  Walks chain v = (k : ℕ) × (after k (At chain 0 [] []) ≡ Some (Ended v))
+-- the walk of a chain begins before its first rule, with no path and no frames; after some number of steps it has the
+-- verdict
+abbrev pub Walks : {P Packet : Type 0} → (P → Packet → Bool) → Dump P → Packet → Meaning → ℕ → Verdict → Type 0
+Walks holds dump p m chain v =
+    (k : ℕ) × (after holds dump p m (policy_of dump chain) k (At chain 0 [] []) ≡ Some (Ended v))

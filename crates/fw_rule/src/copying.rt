@@ -1,18 +1,19 @@
 ghost use Rattle.std.specs.Prelude.{◌≡◌, IfOk};
 
-use crate::rule::{Action, Chain, Dump, Lit, Rule};
-use match_expr::{Bytes, List, Primitive};
+use crate::mapping::LiteralMap;
+use crate::rule::{Action, Dump, Lit};
+use match_expr::{Bytes, Primitive};
 use std::alloc::{AllocError, Global};
 
 /// The same bytes.
-fn same_bytes(alloc: Global, bytes: &Bytes) -> Result<Bytes, AllocError>
+pub(crate) fn same_bytes(alloc: Global, bytes: &Bytes) -> Result<Bytes, AllocError>
     ensures { IfOk result (λ b. b ≡ bytes.now) }
 {
     Ok(Bytes::of(Vec::from_slice(alloc, bytes.as_slice())?))
 }
 
 /// The same action.
-fn same_action(alloc: Global, action: &Action) -> Result<Action, AllocError>
+pub(crate) fn same_action(alloc: Global, action: &Action) -> Result<Action, AllocError>
     ensures { IfOk result (λ a. a ≡ action.now) }
 {
     Ok(match action {
@@ -25,47 +26,30 @@ fn same_action(alloc: Global, action: &Action) -> Result<Action, AllocError>
     })
 }
 
-/// The same literal.
-fn same_literal<P: Primitive>(alloc: Global, lit: &Lit<P>) -> Result<Lit<P>, AllocError>
-    ensures { IfOk result (λ l. l ≡ lit.now) }
-{
-    Ok(match lit {
-        Lit::Known { neg, expr } => Lit::Known {
-            neg: *neg,
-            expr: expr.copy(alloc)?,
-        },
-        Lit::Unknown(text) => Lit::Unknown(same_bytes(alloc, text)?),
-    })
+/// The mapping that changes no literal.
+struct Same;
+
+impl<P: Primitive> LiteralMap<P> for Same {
+    ghost image = { λ _ lit. lit };
+
+    fn literal(&self, alloc: Global, lit: &Lit<P>) -> Result<Lit<P>, AllocError> {
+        lit.copy(alloc)
+    }
 }
 
-/// The same rule.
-fn same_rule<P: Primitive>(alloc: Global, rule: &Rule<P>) -> Result<Rule<P>, AllocError>
-    ensures { IfOk result (λ r. r ≡ rule.now) }
-{
-    let mut lits = Vec::new(alloc);
-    for lit in rule.lits.as_slice() {
-        lits.push(same_literal(alloc, lit)?)?;
+impl<P: Primitive> Lit<P> {
+    /// An equal literal.
+    pub fn copy(&self, alloc: Global) -> Result<Lit<P>, AllocError>
+        ensures { IfOk result (λ l. l ≡ self.now) }
+    {
+        Ok(match self {
+            Lit::Known { neg, expr } => Lit::Known {
+                neg: *neg,
+                expr: expr.copy(alloc)?,
+            },
+            Lit::Unknown(text) => Lit::Unknown(same_bytes(alloc, text)?),
+        })
     }
-    Ok(Rule {
-        lits: List::of(lits),
-        action: same_action(alloc, &rule.action)?,
-        line: rule.line,
-    })
-}
-
-/// The same chain.
-fn same_chain<P: Primitive>(alloc: Global, chain: &Chain<P>) -> Result<Chain<P>, AllocError>
-    ensures { IfOk result (λ c. c ≡ chain.now) }
-{
-    let mut rules = Vec::new(alloc);
-    for rule in chain.rules.as_slice() {
-        rules.push(same_rule(alloc, rule)?)?;
-    }
-    Ok(Chain {
-        name: same_bytes(alloc, &chain.name)?,
-        policy: chain.policy,
-        rules: List::of(rules),
-    })
 }
 
 impl<P: Primitive> Dump<P> {
@@ -73,12 +57,6 @@ impl<P: Primitive> Dump<P> {
     pub fn copy(&self, alloc: Global) -> Result<Dump<P>, AllocError>
         ensures { IfOk result (λ d. d ≡ self.now) }
     {
-        let mut chains = Vec::new(alloc);
-        for chain in self.chains.as_slice() {
-            chains.push(same_chain(alloc, chain)?)?;
-        }
-        Ok(Dump {
-            chains: List::of(chains),
-        })
+        self.mapped(alloc, &Same)
     }
 }

@@ -4,15 +4,15 @@ use Rattle.std.specs.List.{AllByRecursion, flat_map}
 use Rattle.std.proofs.lemmas.List.{take_rest}
 use Rattle.interval_set.specs.declared.set.Range.{Range}
 use Rattle.interval_set.specs.Numbers.{Ascends}
-use Rattle.dump_print.specs.Addresses.{IsRangeOf}
-use Rattle.dump_print.proofs.AddressLemmas.{ranges_of}
+use Rattle.primitives.specs.Ranges.{IsRange}
+use Rattle.primitives.proofs.RangeLemmas.{ranges_of}
 use Rattle.fw_text.specs.Ranges.{range_text, ranges_text}
 
 module _ (text_of : ℕ → List ℕ) (w : ℕ) where
   -- what is still to be appended, and that these are ranges
   pub record IsLeft (old text : List ℕ) (ranges left : List Range) : Type 0 where
     pub whole : text ++ flat_map (λ (r : Range). codes "," ++ range_text text_of r) left ≡ old ++ ranges_text text_of ranges
-    pub are_ranges : AllByRecursion (IsRangeOf w) left
+    pub are_ranges : AllByRecursion (IsRange w) left
 
   pub first_appended : (old text : List ℕ) (ranges : List Range) (d : Range) → 1 ≤ length ranges → Ascends (2 ^ w - 1) 0 ranges →
       text ≡ old ++ range_text text_of (get_or ranges 0 d) → IsLeft old text ranges (take (length ranges - 1) (drop 1 ranges))

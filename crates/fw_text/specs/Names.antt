@@ -1,14 +1,7 @@
 -- How a name is shown.
-use Rattle.std.specs.Prelude.{ℕ, ◌+◌, ◌/◌, ◌%◌, ◌==◌, ◌&&◌, ◌||◌, nat_le, nat_lt, Bool, not, List, [], ◌∷◌, ◌++◌, codes, if◌then◌else◌}
-use Rattle.std.specs.List.{list_all, list_any, starts_with}
-
--- an ASCII letter or digit
-abbrev pub is_letter_or_digit : ℕ → Bool
-is_letter_or_digit b = (nat_le 48 b && nat_le b 57) || (nat_le 65 b && nat_le b 90) || (nat_le 97 b && nat_le b 122)
-
--- a byte that a shown name holds as it is
-abbrev pub is_plain_byte : ℕ → Bool
-is_plain_byte b = is_letter_or_digit b || list_any (λ c. c == b) (codes "._+:@/-")
+use Rattle.std.specs.Prelude.{ℕ, ◌+◌, ◌/◌, ◌%◌, ◌==◌, ◌&&◌, nat_lt, Bool, not, List, [], ◌∷◌, ◌++◌, codes, if◌then◌else◌}
+use Rattle.std.specs.List.{list_all, starts_with}
+use Rattle.primitives.specs.Bytes.{is_plain_byte}
 
 -- a name that could be taken for a spelled one
 abbrev pub begins_as_spelled : List ℕ → Bool

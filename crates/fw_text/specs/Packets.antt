@@ -1,14 +1,9 @@
 -- How a packet is shown.
 use Rattle.std.specs.Prelude.{ℕ, ◌++◌, List, codes, decimal}
 use Rattle.primitives.specs.declared.prim.Packet.{Packet}
-use Rattle.primitives.specs.Words.{state_names}
-use Rattle.dump_print.specs.Flags.{flags_text}
-use Rattle.dump_print.specs.Protocols.{name_of}
+use Rattle.primitives.specs.Tables.{name_of, state_names}
+use Rattle.primitives.specs.Words.{flags_text}
 use Rattle.fw_text.specs.Names.{shown_name}
-
--- the name of a state
-abbrev pub state_text : ℕ → List ℕ
-state_text state = name_of state_names state
 
 -- the shown names of the interfaces
 abbrev pub names_text : Packet → List ℕ
@@ -18,9 +13,9 @@ names_text p = codes " in=" ++ shown_name p.in_name ++ codes " out=" ++ shown_na
 abbrev pub numbers_text : Packet → List ℕ
 numbers_text p = codes " proto=" ++ decimal p.proto ++ codes " sport=" ++ decimal p.sport ++ codes " dport=" ++ decimal p.dport
 
--- the flags and the state
+-- the flags and the name of the state
 abbrev pub rest_text : Packet → List ℕ
-rest_text p = codes " flags=" ++ flags_text p.flags ++ codes " state=" ++ state_text p.state
+rest_text p = codes " flags=" ++ flags_text p.flags ++ codes " state=" ++ name_of state_names p.state
 
 -- `text_of` is the one text of an address
 module _ (text_of : ℕ → List ℕ) where

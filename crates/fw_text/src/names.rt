@@ -1,15 +1,10 @@
 ghost use Rattle.std.specs.Prelude.{◌≡◌, ◌<◌, ◌++◌, IfOk, OnOk, OnErr};
 ghost use Rattle.std.specs.List.{list_all};
-ghost use Rattle.fw_text.specs.Names.{begins_as_spelled, hex_digit, hex_of, is_plain, is_plain_byte, shown_name};
+ghost use Rattle.primitives.specs.Bytes.{is_plain_byte};
+ghost use Rattle.fw_text.specs.Names.{begins_as_spelled, hex_digit, hex_of, is_plain, shown_name};
 
+use primitives::is_plain_byte;
 use std::alloc::{AllocError, Global};
-
-// Whether a shown name holds the byte as it is.
-fn is_plain_byte(byte: u8) -> bool
-    ensures { result ≡ is_plain_byte byte }
-{
-    matches!(byte, b'0'..=b'9' | b'A'..=b'Z' | b'a'..=b'z' | b'.' | b'_' | b'+' | b':' | b'@' | b'/' | b'-')
-}
 
 fn all_plain(name: &[u8]) -> bool
     ensures { result ≡ list_all is_plain_byte name.now }

@@ -1,11 +1,10 @@
-ghost use Rattle.std.specs.Prelude.{◌≡◌, ◌++◌, ◌<◌, ◌^◌, OnErr, OnOk};
+ghost use Rattle.std.specs.Prelude.{◌≡◌, ◌++◌, OnErr, OnOk};
 ghost use Rattle.primitives.specs.Holds.{IsValid};
-ghost use Rattle.fw_text.specs.Packets.{addresses_text, names_text, numbers_text, packet_text, rest_text, state_text};
+ghost use Rattle.fw_text.specs.Packets.{addresses_text, names_text, numbers_text, packet_text, rest_text};
 
 use crate::names::shown;
 use addr_text::Family;
-use dump_print::flags_text;
-use primitives::Packet;
+use primitives::{Packet, append_flags, append_state};
 use std::alloc::{AllocError, Global};
 
 // Appends the shown names of both interfaces.
@@ -40,29 +39,14 @@ fn append_numbers(alloc: Global, p: &Packet, out: &mut Vec<u8>) -> Result<(), Al
     out.extend_from_slice(text.as_bytes())
 }
 
-// The name of a state, which is below 5.
-fn state_name(state: u8) -> &'static [u8]
-    requires { state < 5 }
-    ensures { result.now ≡ state_text state }
-{
-    match state {
-        0 => b"INVALID",
-        1 => b"NEW",
-        2 => b"RELATED",
-        3 => b"ESTABLISHED",
-        _ => b"UNTRACKED",
-    }
-}
-
 // Appends the flags and the state.
-fn append_rest(alloc: Global, p: &Packet, out: &mut Vec<u8>) -> Result<(), AllocError>
-    requires { p.now.state < 5 }
+fn append_rest(p: &Packet, out: &mut Vec<u8>) -> Result<(), AllocError>
     ensures { OnOk result (out.new.items ≡ out.old.items ++ rest_text p.now) }
 {
     out.extend_from_slice(b" flags=")?;
-    flags_text(alloc, p.flags, out)?;
+    append_flags(p.flags, out)?;
     out.extend_from_slice(b" state=")?;
-    out.extend_from_slice(state_name(p.state))
+    append_state(p.state, out)
 }
 
 /// Appends the fields of a valid packet, with a space before each: ` in=I out=O src=A dst=B proto=N sport=P dport=Q flags=F state=S`.
@@ -81,6 +65,6 @@ pub fn packet_text<F: Family<W>, const W: u32>(
     append_names(alloc, p, &mut text)?;
     append_addresses::<F, W>(p, &mut text)?;
     append_numbers(alloc, p, &mut text)?;
-    append_rest(alloc, p, &mut text)?;
+    append_rest(p, &mut text)?;
     out.extend_from_slice(&text)
 }

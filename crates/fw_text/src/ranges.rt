@@ -1,6 +1,6 @@
 ghost use Rattle.std.specs.Prelude.{◌≡◌, ◌++◌, OnErr, OnOk};
 ghost use Rattle.interval_set.specs.Numbers.{IsSet};
-ghost use Rattle.dump_print.specs.Addresses.{IsRangeOf};
+ghost use Rattle.primitives.specs.Ranges.{IsRange};
 ghost use Rattle.fw_text.specs.Ranges.{range_text, ranges_text};
 
 use addr_text::Family;
@@ -12,7 +12,7 @@ fn append_range<F: Family<W>, const W: u32>(
     range: Range,
     out: &mut Vec<u8>,
 ) -> Result<(), AllocError>
-    requires { IsRangeOf W range }
+    requires { IsRange W range }
     ensures { OnOk result (out.new.items ≡ out.old.items ++ range_text F.text_of range) }
 {
     F::write(range.lo, out)?;

@@ -23,7 +23,7 @@ ends_rise last from (r ∷ rs) a (suc i) zero d h l = absurd (omega (arith, h))
 ends_rise last from (r ∷ rs) a (suc i) (suc j) d h l = ends_rise last (r.hi + 2) rs a.3 i j d (omega (arith, h)) (omega (arith, l))
 
 -- ranges that end below the value don't have it
-has-passed : (i : ℕ) (rs : List Range) (v : ℕ) → ((k : ℕ) (d : Range) → k < i → (get_or rs k d).hi < v) → has rs v ≡ has (drop i rs) v
+pub has-passed : (i : ℕ) (rs : List Range) (v : ℕ) → ((k : ℕ) (d : Range) → k < i → (get_or rs k d).hi < v) → has rs v ≡ has (drop i rs) v
 has-passed zero [] v f = refl
 has-passed (suc i) [] v f = refl
 has-passed zero (r ∷ rs) v f = refl

@@ -3,6 +3,7 @@ ghost use Rattle.std.specs.Prelude.{◌≡◌, ◌+◌, ◌-◌, ◌^◌, ◌<�
 ghost use Rattle.interval_set.specs.Numbers.{has, is_within, IsSet};
 ghost use Rattle.interval_set.specs.Ends.{next_after, last_low, BeginsFrom};
 
+use crate::apart::passed;
 use crate::set::{Range, Set};
 use std::alloc::{AllocError, Global};
 
@@ -18,8 +19,8 @@ pub(crate) fn both<const W: u32>(
     ensures set { IfOk result (λ v. IsSet W v.items) }
 {
     let mut out = Vec::new(alloc);
-    let mut i = 0;
-    let mut j = 0;
+    let mut i = passed::<W>(a, b);
+    let mut j = passed::<W>(b, a);
     while i < a.len() && j < b.len() {
         let x = a[i];
         let y = b[j];

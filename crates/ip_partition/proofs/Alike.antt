@@ -4,7 +4,7 @@ use Rattle.std.proofs.lemmas.List.{take_more}
 use Rattle.interval_set.specs.declared.set.Range.{Range}
 use Rattle.interval_set.specs.Numbers.{has, is_within}
 use Rattle.interval_set.proofs.Lists.{has-snoc, zero_range}
-use Rattle.ip_partition.specs.Atoms.{AreLasts, AreLeaders, SplitBy}
+use Rattle.ip_partition.specs.inner.Atoms.{AreLasts, AreLeaders, SplitBy}
 use Rattle.ip_partition.specs.Groups.{LieAlike}
 
 -- one range more

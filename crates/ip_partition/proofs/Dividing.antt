@@ -4,7 +4,7 @@ use Rattle.std.proofs.Math.ListN.{get_or-append}
 use Rattle.std.proofs.Math.Seq.{get_or-append_seam}
 use Rattle.std.proofs.lemmas.Bool.{cases_order}
 use Rattle.std.proofs.lemmas.Bool.Decides.{nat_tests}
-use Rattle.ip_partition.specs.Atoms.{is_in, AreLasts, AreLeaders, IsNewLeader, Noted, SplitBy}
+use Rattle.ip_partition.specs.inner.Atoms.{is_in, AreLasts, AreLeaders, IsNewLeader, Noted, SplitBy}
 
 pub same_or_not : (a b : Bool) → (a ≡ b) ⊎ (a ≢ b)
 same_or_not true true = inl refl

@@ -7,7 +7,7 @@ use Rattle.interval_set.specs.declared.set.Range.{Range}
 use Rattle.interval_set.specs.Laws.{has-below}
 use Rattle.interval_set.specs.Numbers.{has, Ascends, IsSet}
 use Rattle.ip_partition.specs.Boundaries.{Ascend, ChangesAt, HasBoundaries, IsBoundary}
-use Rattle.ip_partition.specs.Starts.{after, ends, starts_of}
+use Rattle.ip_partition.specs.inner.Starts.{after, ends, starts_of}
 use Rattle.ip_partition.proofs.Sorted.{Added, In, all_added, contains_of, from_less, in_append, in_from, in_of}
 
 after_cases : (top m n : ℕ) → In (after top m) n ↔ ((m < top) × (n ≡ m + 1))

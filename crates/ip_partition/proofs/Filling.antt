@@ -2,17 +2,18 @@
 use Rattle.std.proofs.Common.{ℕ, ◌+◌, ◌<◌, ◌≤◌, ◌≡◌, ◌∙◌, List, [], ◌∷◌, ◌++◌, sym, ap, subst, arith, length, get_or, drop, drop-cons, add-one}
 use Rattle.std.specs.List.{flat_map}
 use Rattle.std.proofs.lemmas.List.{drop_all}
+use Rattle.limits.specs.declared.TheConstants.{MOST_BOUNDARIES}
 use Rattle.interval_set.specs.declared.set.Range.{Range}
 use Rattle.interval_set.proofs.Lists.{left_from, zero_range}
 use Rattle.ip_partition.specs.Boundaries.{Ascend}
-use Rattle.ip_partition.specs.Starts.{after, ends, with_number, with_numbers, PassesLimit}
+use Rattle.ip_partition.specs.inner.Starts.{after, ends, with_number, with_numbers, PassesLimit}
 use Rattle.ip_partition.specs.declared.fault.GroupFault.{GroupFault}
 use Rattle.ip_partition.proofs.Sorted.{all_added, with_all}
 
 -- `all` is what `now` becomes by what is left
 pub record Fills (left now all : List ℕ) : Type 0 where
   pub ascend : Ascend 0 now
-  pub few : length now ≤ 4097
+  pub few : length now ≤ MOST_BOUNDARIES + 1
   pub put : with_numbers left now ≡ all
 
 pub ascend_with : (n : ℕ) (ns : List ℕ) → Ascend 0 ns → Ascend 0 (with_number n ns)
@@ -31,7 +32,7 @@ range_left top rs i h = ap (ends top) (left_from rs i h)
 
 -- a turn puts both ends of a range
 pub filled : (top : ℕ) (rs : List Range) (i : ℕ) (now mid next all : List ℕ) → i < length rs → Fills (ends top (drop i rs)) now all →
-    mid ≡ with_number (get_or rs i zero_range).lo now → next ≡ with_numbers (after top (get_or rs i zero_range).hi) mid → length next ≤ 4097 → Fills (ends top (drop (i + 1) rs)) next all
+    mid ≡ with_number (get_or rs i zero_range).lo now → next ≡ with_numbers (after top (get_or rs i zero_range).hi) mid → length next ≤ MOST_BOUNDARIES + 1 → Fills (ends top (drop (i + 1) rs)) next all
 filled top rs i now mid next all h f e g few =
     let r = get_or rs i zero_range in
     let more = after top r.hi in
@@ -62,7 +63,7 @@ passed_high top rs i now mid all GroupFault.Atoms h f m p =
     let r = get_or rs i zero_range in
     let more = after top r.hi in
     let rest = ends top (drop (i + 1) rs) in
-    let P : List ℕ → Type 0 = λ ns. 4097 < length (with_numbers more ns) in
+    let P : List ℕ → Type 0 = λ ns. MOST_BOUNDARIES + 1 < length (with_numbers more ns) in
     let q : P (with_number r.lo now) = subst P m p in
     let is : with_numbers rest (with_numbers more (with_number r.lo now)) ≡ all =
     sym (with_all more rest (with_number r.lo now)) ∙ ap (λ ns. with_numbers ns now) (sym (range_left top rs i h)) ∙ f.put in
@@ -80,7 +81,7 @@ set_left top sets i d h =
     ap (flat_map (ends top)) e
 
 pub set_filled : (top : ℕ) (sets : List (List Range)) (i : ℕ) (d : List Range) (now next all : List ℕ) → i < length sets → Fills (flat_map (ends top) (drop i sets)) now all →
-    next ≡ with_numbers (ends top (get_or sets i d)) now → length next ≤ 4097 → Fills (flat_map (ends top) (drop (i + 1) sets)) next all
+    next ≡ with_numbers (ends top (get_or sets i d)) now → length next ≤ MOST_BOUNDARIES + 1 → Fills (flat_map (ends top) (drop (i + 1) sets)) next all
 set_filled top sets i d now next all h f e few =
     let more = ends top (get_or sets i d) in
     let rest = flat_map (ends top) (drop (i + 1) sets) in
@@ -95,7 +96,7 @@ pub set_passed : (top : ℕ) (sets : List (List Range)) (i : ℕ) (d set : List 
     set ≡ get_or sets i d → PassesLimit (with_numbers (ends top set) now) e → PassesLimit all e
 set_passed top sets i d set now all GroupFault.Memory h f s p = tt
 set_passed top sets i d set now all GroupFault.Atoms h f s q =
-    let P : List Range → Type 0 = λ rs. 4097 < length (with_numbers (ends top rs) now) in
+    let P : List Range → Type 0 = λ rs. MOST_BOUNDARIES + 1 < length (with_numbers (ends top rs) now) in
     let p : P (get_or sets i d) = subst P s q in
     let more = ends top (get_or sets i d) in
     let rest = flat_map (ends top) (drop (i + 1) sets) in

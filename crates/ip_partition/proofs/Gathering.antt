@@ -1,16 +1,18 @@
 -- The ranges of a class, and the classes one after another.
-use Rattle.std.proofs.Common.{ℕ, zero, suc, ◌+◌, ◌-◌, ◌^◌, ◌<◌, ◌≤◌, ◌≡◌, ◌≢◌, ◌↔◌, ◌⊎◌, inl, inr, List, [], ◌∷◌, ◌++◌, Bool, true, false, ◌||◌, refl, sym, ◌∙◌, ap, subst, arith, length, get_or, take, drop}
+use Rattle.std.proofs.Common.{ℕ, zero, suc, ◌+◌, ◌-◌, ◌^◌, ◌<◌, ◌≤◌, ◌≡◌, ◌≢◌, ◌↔◌, inl, inr, List, [], ◌∷◌, ◌++◌, Bool, true, false, ◌||◌, refl, sym, ◌∙◌, ap, subst, arith, length, get_or, take, drop}
 use Rattle.std.specs.List.{AllByRecursion}
 use Rattle.std.proofs.Math.Seq.{take-length}
 use Rattle.std.proofs.lemmas.Bool.{cases_order}
 use Rattle.std.proofs.lemmas.Bool.Decides.{nat_tests}
+use Rattle.basics.proofs.Lists.{each_more}
+use Rattle.basics.proofs.Truths.{or_left, or_right, or_true}
 use Rattle.interval_set.specs.declared.set.Range.{Range}
 use Rattle.interval_set.specs.Numbers.{has, is_within, IsWidth}
 use Rattle.interval_set.proofs.Lists.{has-snoc}
 use Rattle.interval_set.proofs.Spelling.{power}
-use Rattle.ip_partition.specs.Atoms.{AreLasts, AreLeaders, InAtom, IsClass}
+use Rattle.ip_partition.specs.inner.Atoms.{AreLasts, AreLeaders, InAtom, IsClass}
 use Rattle.ip_partition.specs.Boundaries.{Ascend}
-use Rattle.ip_partition.specs.Classes.{AreClasses, AreStarts, EachIsClass, IsAtomOf, IsUsual, PutAtom}
+use Rattle.ip_partition.specs.inner.Classes.{AreClasses, AreStarts, EachIsClass, IsAtomOf, IsUsual, PutAtom}
 use Rattle.ip_partition.proofs.Sorted.{In, contains_of, in_append, in_of, rises}
 
 pub default_off : (xs : List ℕ) (k d e : ℕ) → k < length xs → get_or xs k d ≡ get_or xs k e
@@ -26,18 +28,6 @@ default_past (x ∷ xs) (suc k) d h = default_past xs k d (omega (arith, h))
 
 pub next_above : (k : ℕ) (starts : List ℕ) → Ascend 0 starts → k + 1 < length starts → get_or starts k 0 < get_or starts (k + 1) 0
 next_above k starts a h = rises 0 k (k + 1) starts 0 a (omega arith) h
-
-pub or_true : (a b : Bool) → (a || b) ≡ true → (a ≡ true) ⊎ (b ≡ true)
-or_true true b e = inl refl
-or_true false b e = inr e
-
-or_left : (a b : Bool) → a ≡ true → (a || b) ≡ true
-or_left true b e = refl
-or_left false b e = cc
-
-or_right : (a b : Bool) → b ≡ true → (a || b) ≡ true
-or_right true b e = refl
-or_right false b e = e
 
 or_after : (x a b c : Bool) → a ≡ (b || c) → (x || a) ≡ ((x || b) || c)
 or_after true a b c e = refl
@@ -78,10 +68,6 @@ within_atom w starts k r n i h a =
       λ t. let x : r.lo ≤ n = omega (arith, d, f, t.0) in let y : n ≤ r.hi = omega (arith, e, t.1) in grind (arith, nat_tests, x, y),
     )
 
-pub all_snoc : (w : ℕ) (rs : List Range) (r : Range) → AllByRecursion (IsUsual w) rs → IsUsual w r → AllByRecursion (IsUsual w) (rs ++ r ∷ [])
-all_snoc w [] r a u = (u, tt)
-all_snoc w (s ∷ rs) r a u = (a.0, all_snoc w rs r a.1 u)
-
 -- the ranges of the atoms of a class up to this one
 pub record Gathered (w : ℕ) (starts leaders : List ℕ) (leader at : ℕ) (ranges : List Range) : Type 0 where
   pub usual : AllByRecursion (IsUsual w) ranges
@@ -111,7 +97,7 @@ one_gathered w starts leaders leader at ranges more i s h g (inr p) =
     let r = p.1 in
     let P : List Range → Type 0 = λ rs. Gathered w starts leaders leader (at + 1) rs in
     subst P (sym p.3) (record {
-      usual = all_snoc w ranges r g.usual (usual w starts at r i s h p.2);
+      usual = each_more (IsUsual w) ranges r g.usual (usual w starts at r i s h p.2);
       numbers = λ n.
           let v = g.numbers n in
           let u = within_atom w starts at r n i h p.2 in (

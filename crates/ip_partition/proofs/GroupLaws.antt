@@ -1,17 +1,19 @@
 -- The classes of atoms are the groups of the sets.
-use Rattle.std.proofs.Common.{ℕ, zero, suc, ◌+◌, ◌-◌, ◌^◌, ◌<◌, ◌≤◌, ◌≡◌, ◌↔◌, inl, inr, List, [], ◌∷◌, Some, refl, sym, ◌∙◌, ap, subst, arith, length, get_or, slice_get}
+use Rattle.std.proofs.Common.{ℕ, zero, suc, ◌+◌, ◌-◌, ◌^◌, ◌<◌, ◌≤◌, ◌≡◌, ◌↔◌, inl, inr, List, [], ◌∷◌, Some, refl, sym, ◌∙◌, ap, subst, arith, length, get_or, slice_get, Contains}
 use Rattle.std.specs.List.{AllByRecursion, flat_map}
 use Rattle.std.proofs.lemmas.Bool.{cases_order}
+use Rattle.basics.proofs.Lists.{in_bounds}
+use Rattle.limits.specs.declared.TheConstants.{MOST_BOUNDARIES}
 use Rattle.interval_set.specs.declared.set.Range.{Range}
 use Rattle.interval_set.specs.Numbers.{has, IsSet, IsWidth}
 use Rattle.interval_set.proofs.Spelling.{power}
 use Rattle.ip_partition.specs.declared.fault.GroupFault.{GroupFault}
-use Rattle.ip_partition.specs.Atoms.{AreLeaders, InAtom, IsClass}
-use Rattle.ip_partition.specs.Boundaries.{Ascend}
-use Rattle.ip_partition.specs.Classes.{AreClasses, AreStarts, EachIsClass}
-use Rattle.ip_partition.specs.Groups.{AreGroups, HasFewBoundaries, LieAlike, RefusesGroups}
+use Rattle.ip_partition.specs.inner.Atoms.{AreLeaders, InAtom, IsClass}
+use Rattle.ip_partition.specs.Boundaries.{Ascend, HasFewBoundaries}
+use Rattle.ip_partition.specs.inner.Classes.{AreClasses, AreStarts, EachIsClass}
+use Rattle.ip_partition.specs.Groups.{AreGroups, LieAlike, RefusesGroups}
 use Rattle.ip_partition.specs.Partition.{IsIn, IsPartition}
-use Rattle.ip_partition.specs.Starts.{ends, starts_of, PassesLimit}
+use Rattle.ip_partition.specs.inner.Starts.{ends, starts_of, PassesLimit}
 use Rattle.ip_partition.proofs.Dividing.{same_or_not}
 use Rattle.ip_partition.proofs.Ends.{boundaries, each_end, ends_there, starts_added, starts_begin}
 use Rattle.ip_partition.proofs.Gathering.{default_off, default_past}
@@ -178,11 +180,6 @@ past_sets [] g h = absurd (omega (arith, h))
 past_sets (s ∷ ss) zero h = (s, refl)
 past_sets (s ∷ ss) (suc g) h = past_sets ss g (omega (arith, h))
 
-within_length : (sets : List (List Range)) (g : ℕ) (class : List Range) → slice_get sets g ≡ Some class → g < length sets
-within_length [] g class e = cc
-within_length (s ∷ ss) zero class e = omega arith
-within_length (s ∷ ss) (suc g) class e = omega (arith, within_length ss g class e)
-
 -- the starts of the atoms of some sets
 pub starts_are : (w : ℕ) (sets : List (List Range)) → IsWidth w → AllByRecursion (IsSet w) sets → AreStarts w (starts_of w sets)
 starts_are w sets i a =
@@ -273,7 +270,7 @@ module _ (w : ℕ) (sets : List (List Range)) (starts leaders : List ℕ) (group
   ordered : (i j n : ℕ) → i < j → IsIn groups j n → (m : ℕ) × IsIn groups i m × (m < n)
   ordered i j n l y =
       let b = led j n y in
-      let p = past_sets groups i (omega (arith, l, within_length groups j y.0 y.1)) in
+      let p = past_sets groups i (omega (arith, l, in_bounds groups j y.0 y.1)) in
       let a = first_in i p.0 p.1 in
       let r = heads_rise 0 i j a.0 b.0 f.classes.heads f.classes.ascend l a.1 b.1 in
       let q = f.leading.earlier b.2.0 (omega (arith, b.2.1, f.count)) in
@@ -327,7 +324,7 @@ each_at Q (x ∷ xs) each = (each 0 x (omega arith), each_at Q xs (λ k d below.
 pub starts_at : (w : ℕ) (sets : List (List Range)) (starts : List ℕ) → IsWidth w → AllByRecursion (IsSet w) sets → starts ≡ starts_of w sets → AreStarts w starts
 starts_at w sets starts i a e = let P : List ℕ → Type 0 = λ ns. AreStarts w ns in subst P (sym e) (starts_are w sets i a)
 
-pub few_boundaries : (w : ℕ) (sets : List (List Range)) (starts : List ℕ) → AllByRecursion (IsSet w) sets → starts ≡ starts_of w sets → length starts ≤ 4097 → HasFewBoundaries w sets
+pub few_boundaries : (w : ℕ) (sets : List (List Range)) (starts : List ℕ) → AllByRecursion (IsSet w) sets → starts ≡ starts_of w sets → length starts ≤ MOST_BOUNDARIES + 1 → HasFewBoundaries w (Contains sets)
 few_boundaries w sets starts a e l = (length (starts_of w sets) - 1, boundaries w sets a, omega (arith, ap length e, l))
 
 pub refused : (w : ℕ) (sets : List (List Range)) (fault : GroupFault) → AllByRecursion (IsSet w) sets → PassesLimit (starts_of w sets) fault → RefusesGroups w sets fault

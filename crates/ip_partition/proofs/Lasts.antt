@@ -2,7 +2,7 @@
 use Rattle.std.proofs.Common.{ℕ, ◌+◌, ◌<◌, ◌≤◌, ◌≡◌, ◌≢◌, inl, inr, List, refl, ◌∙◌, ap, arith, length, get_or, get_or-set_other, get_or-set_same}
 use Rattle.std.proofs.Math.ListN.{length-set, set}
 use Rattle.std.proofs.lemmas.Bool.{cases_order}
-use Rattle.ip_partition.specs.Atoms.{AreLasts, AreLeaders}
+use Rattle.ip_partition.specs.inner.Atoms.{AreLasts, AreLeaders}
 use Rattle.ip_partition.proofs.Dividing.{below_next}
 
 -- the atoms up to `i` are no later than the last one noted of their class

@@ -6,7 +6,7 @@ use Rattle.std.specs.Ordering.{nat_cmp}
 use Rattle.std.proofs.lemmas.List.Edits.{length-insert}
 use Rattle.std.proofs.lemmas.List.Sorted.{searched}
 use Rattle.ip_partition.specs.Boundaries.{Ascend}
-use Rattle.ip_partition.specs.Starts.{with_number}
+use Rattle.ip_partition.specs.inner.Starts.{with_number}
 use Rattle.ip_partition.proofs.Sorted.{In, never_falls, with_placed, with_present}
 
 in_place : (ns : List ℕ) (n k d : ℕ) → k < length ns → get_or ns k d ≡ n → In ns n

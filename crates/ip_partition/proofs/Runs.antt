@@ -6,7 +6,7 @@ use Rattle.std.proofs.lemmas.Bool.Decides.{nat_tests}
 use Rattle.interval_set.specs.declared.set.Range.{Range}
 use Rattle.interval_set.specs.Numbers.{has, is_within}
 use Rattle.interval_set.proofs.Lists.{zero_range}
-use Rattle.ip_partition.specs.Atoms.{is_in, AreLeaders}
+use Rattle.ip_partition.specs.inner.Atoms.{is_in, AreLeaders}
 use Rattle.ip_partition.proofs.Alike.{has_more}
 
 at_point : (p : ℕ → Bool) (starts : List ℕ) (at k : ℕ) → IsPartitionPoint (λ y. p y ≡ true) (λ y. p y ≡ false) starts at → k < length starts → p (get_or starts k 0) ≡ nat_lt k at

@@ -5,7 +5,7 @@ use Rattle.std.specs.List.Sorted.{IsNonDecreasingBy}
 use Rattle.std.proofs.lemmas.Bool.{cases_order}
 use Rattle.std.proofs.lemmas.Bool.Decides.{nat_tests}
 use Rattle.ip_partition.specs.Boundaries.{Ascend}
-use Rattle.ip_partition.specs.Starts.{with_number, with_numbers}
+use Rattle.ip_partition.specs.inner.Starts.{with_number, with_numbers}
 
 -- the number is one of the list
 abbrev pub In : List ℕ → ℕ → Type 0

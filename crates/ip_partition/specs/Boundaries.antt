@@ -1,5 +1,6 @@
 -- Where sets of numbers begin and end.
 use Rattle.std.specs.Prelude.{ℕ, ◌+◌, ◌-◌, ◌^◌, ◌<◌, ◌≤◌, ◌≡◌, ◌≢◌, ◌↔◌, List, [], ◌∷◌, Contains, length}
+use Rattle.limits.specs.declared.TheConstants.{MOST_BOUNDARIES}
 use Rattle.interval_set.specs.declared.set.Range.{Range}
 use Rattle.interval_set.specs.Numbers.{has}
 
@@ -24,3 +25,11 @@ module _ (w : ℕ) (Is : List Range → Type 0) where
     pub ascend : Ascend 0 numbers
     pub all : (n : ℕ) → Contains numbers n ↔ IsBoundary n
     pub count_is : length numbers ≡ count
+
+  -- they have at most 4,096
+  abbrev pub HasFewBoundaries : Type 0
+  HasFewBoundaries = (count : ℕ) × HasBoundaries count × (count ≤ MOST_BOUNDARIES)
+
+  -- they have more
+  abbrev pub HasManyBoundaries : Type 0
+  HasManyBoundaries = (count : ℕ) × HasBoundaries count × (MOST_BOUNDARIES < count)

@@ -2,7 +2,7 @@
 ghost use Rattle.std.specs.Prelude.{◌≡◌, ◌≢◌, ◌+◌, ◌-◌, ◌^◌, ◌<◌, ◌≤◌, ◌||◌, ◌↔◌, ℕ, IfOk, IsTrue, false, length, nat_le, nat_lt, slice_index_or};
 ghost use Rattle.interval_set.specs.Numbers.{has, is_within};
 ghost use Rattle.ip_partition.specs.Boundaries.{Ascend};
-ghost use Rattle.ip_partition.specs.Atoms.{is_in, IsNewLeader, IsNoted, AreLasts, AreLeaders, SplitBy};
+ghost use Rattle.ip_partition.specs.inner.Atoms.{is_in, IsNewLeader, IsNoted, AreLasts, AreLeaders, SplitBy};
 ghost use Rattle.ip_partition.specs.Groups.{LieAlike};
 
 use interval_set::{Range, Set};

@@ -2,9 +2,9 @@
 ghost use Rattle.std.specs.Prelude.{◌≡◌, ◌+◌, ◌<◌, ◌≤◌, ℕ, IfOk, OnOk, length, slice_index_or, take, drop};
 ghost use Rattle.std.specs.List.{AllByRecursion};
 ghost use Rattle.interval_set.specs.Numbers.{has, IsWidth};
-ghost use Rattle.ip_partition.specs.Atoms.{AreLasts, AreLeaders, IsClass};
+ghost use Rattle.ip_partition.specs.inner.Atoms.{AreLasts, AreLeaders, IsClass};
 ghost use Rattle.ip_partition.specs.Boundaries.{Ascend};
-ghost use Rattle.ip_partition.specs.Classes.{AreClasses, AreStarts, IsAtomOf, IsUsual, PutAtom};
+ghost use Rattle.ip_partition.specs.inner.Classes.{AreClasses, AreStarts, IsAtomOf, IsUsual, PutAtom};
 
 use crate::atoms::Numbering;
 use interval_set::{Range, Set};

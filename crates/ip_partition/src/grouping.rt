@@ -1,7 +1,8 @@
-ghost use Rattle.std.specs.Prelude.{IfErr, IfOk, OnOk};
+ghost use Rattle.std.specs.Prelude.{Contains, IfErr, IfOk, OnOk};
 ghost use Rattle.std.specs.List.{AllByRecursion};
 ghost use Rattle.interval_set.specs.Numbers.{IsSet, IsWidth};
-ghost use Rattle.ip_partition.specs.Groups.{AreGroups, HasFewBoundaries, RefusesGroups};
+ghost use Rattle.ip_partition.specs.Boundaries.{HasFewBoundaries};
+ghost use Rattle.ip_partition.specs.Groups.{AreGroups, RefusesGroups};
 
 use crate::GroupFault;
 use crate::atoms::numbering_of;
@@ -20,10 +21,11 @@ fn are_sets<const W: u32>(sets: &[Set<W>])
     }
 }
 
-/// The groups of the numbers below `2 ^ W` that lie in the same sets, in the order of their least numbers. The groups share no
-/// number, none of them is empty, and together they have all numbers. W is 8, 16, 32 or 128.
+/// The groups of the numbers below `2 ^ W` that lie in the same sets, in the order of their least numbers. The groups share
+/// no number, none of them is empty, and together they have all numbers. W is 8, 16, 32 or 128.
 ///
-/// A boundary of a set is a number above 0 and below `2 ^ W` that is in the set where the one before it isn't, or the other way round.
+/// A boundary of a set is a number above 0 and below `2 ^ W` that is in the set where the one before it isn't, or the other
+/// way round.
 ///
 /// # Errors
 ///
@@ -31,7 +33,7 @@ fn are_sets<const W: u32>(sets: &[Set<W>])
 pub fn groups<const W: u32>(alloc: Global, sets: &[Set<W>]) -> Result<List<Set<W>>, GroupFault>
     requires { IsWidth W }
     ensures groups { IfOk result (λ groups. AreGroups W sets.now groups) }
-    ensures few { OnOk result (HasFewBoundaries W sets.now) }
+    ensures few { OnOk result (HasFewBoundaries W (Contains sets.now)) }
     ensures refused { IfErr result (RefusesGroups W sets.now) }
 {
     are_sets(sets);

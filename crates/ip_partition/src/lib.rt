@@ -9,6 +9,3 @@ mod grouping;
 
 pub use fault::GroupFault;
 pub use grouping::groups;
-
-#[cfg(test)]
-mod tests;

@@ -1,6 +1,8 @@
 //! How much a run may take: each limit of the program, as one named constant. Code and definitions cite it from here.
 #![tactic(auto)]
 
+ghost use Rattle.std.specs.Prelude.{◌≡◌};
+
 /// The most bytes that an input has.
 pub const MOST_BYTES: usize = 16_777_216;
 
@@ -30,3 +32,10 @@ pub const MOST_REGIONS: usize = 65_536;
 
 /// The most visits of rules that an explanation goes through.
 pub const MOST_VISITS: u64 = 16_777_216;
+
+/// The numbers themselves. Code and definitions cite them by name, so that this one place says what they are.
+pub fn are_these()
+    ensures input { (MOST_BYTES ≡ 16777216) × (MOST_CHAINS ≡ 256) × (MOST_VISITS ≡ 16777216) }
+    ensures filters { (MOST_NODES ≡ 262144) × (MOST_LITERALS ≡ 4194304) × (MOST_CUBES ≡ 16384) × (MOST_RULES ≡ 131072) × (MOST_LINES ≡ 262144) }
+    ensures questions { (MOST_BOUNDARIES ≡ 4096) × (MOST_REGIONS ≡ 65536) }
+{}

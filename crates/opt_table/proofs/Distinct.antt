@@ -8,7 +8,8 @@ use Rattle.std.proofs.lemmas.List.{get_or-map, length-map}
 use Rattle.std.proofs.lemmas.List.Kept.{AllPairs-cons}
 use Rattle.std.proofs.lemmas.List.Sums.{AllPass-from_list_all}
 use Rattle.opt_table.specs.declared.Row.{Row}
-use Rattle.opt_table.specs.Rows.{Spelling, spelling_of, HasOtherTexts}
+use Rattle.opt_table.specs.Options.{Spelling}
+use Rattle.opt_table.specs.Rows.{spelling_of, HasOtherTexts}
 
 -- equal texts are told to be equal
 same_text : (xs ys : List ℕ) → xs ≡ ys → bytes_eq xs ys ≡ true

@@ -32,11 +32,13 @@ static TWICE: [Row; 2] = [
         module: b"a",
         option: b"--x",
         arity: 0,
+        kind: Kind::Base,
     },
     Row {
         module: b"a",
         option: b"--x",
         arity: 1,
+        kind: Kind::Base,
     },
 ];
 

@@ -1,146 +1,28 @@
-ghost use Rattle.std.specs.Prelude.{◌≡◌, ◌≢◌, ◌==◌, ◌≤◌, ◌∷◌, ◌++◌, ℕ, All, IfSome, IfNone, decimal, map};
-ghost use Rattle.std.specs.List.{slice_split};
-ghost use Rattle.primitives.specs.Words.{IsFlagList, SpellsFlags, SpellsProto, flag_of, flags_of, named, number_in, proto_names, state_names};
+//! Reads words.
+ghost use Rattle.std.specs.Prelude.{◌≡◌, ◌<◌, ◌≤◌, ◌^◌, ℕ, IfSome, IfNone, decimal, map, true};
+ghost use Rattle.basics.specs.Parts.{comma_parts};
+ghost use Rattle.primitives.specs.Tables.{bit_in, bits_in, flag_names, number_in, proto_names, state_names};
+ghost use Rattle.primitives.specs.Words.{SpellsFlags, SpellsProto};
+ghost use Rattle.primitives.specs.inner.Rows.{are_places, named};
 
+use crate::tables::{FLAGS, PROTOCOLS, STATES, Word, number_of};
 use addr_text::read_number;
-
-/// A word and the number that it stands for.
-struct Word {
-    name: &'static [u8],
-    number: u8,
-}
-
-/// The number of the first word of that name.
-fn number_of(words: &[Word], text: &[u8]) -> Option<u8>
-    ensures { result ≡ number_in (map named words.now) text.now }
-{
-    for word in words {
-        if word.name == text {
-            return Some(word.number);
-        }
-    }
-    None
-}
-
-static PROTOCOLS: [Word; 12] = [
-    Word {
-        name: b"icmp",
-        number: 1,
-    },
-    Word {
-        name: b"igmp",
-        number: 2,
-    },
-    Word {
-        name: b"tcp",
-        number: 6,
-    },
-    Word {
-        name: b"udp",
-        number: 17,
-    },
-    Word {
-        name: b"dccp",
-        number: 33,
-    },
-    Word {
-        name: b"gre",
-        number: 47,
-    },
-    Word {
-        name: b"esp",
-        number: 50,
-    },
-    Word {
-        name: b"ah",
-        number: 51,
-    },
-    Word {
-        name: b"ipv6-icmp",
-        number: 58,
-    },
-    Word {
-        name: b"icmpv6",
-        number: 58,
-    },
-    Word {
-        name: b"sctp",
-        number: 132,
-    },
-    Word {
-        name: b"udplite",
-        number: 136,
-    },
-];
-
-static STATES: [Word; 5] = [
-    Word {
-        name: b"INVALID",
-        number: 0,
-    },
-    Word {
-        name: b"NEW",
-        number: 1,
-    },
-    Word {
-        name: b"RELATED",
-        number: 2,
-    },
-    Word {
-        name: b"ESTABLISHED",
-        number: 3,
-    },
-    Word {
-        name: b"UNTRACKED",
-        number: 4,
-    },
-];
-
-static FLAGS: [Word; 6] = [
-    Word {
-        name: b"FIN",
-        number: 1,
-    },
-    Word {
-        name: b"SYN",
-        number: 2,
-    },
-    Word {
-        name: b"RST",
-        number: 4,
-    },
-    Word {
-        name: b"PSH",
-        number: 8,
-    },
-    Word {
-        name: b"ACK",
-        number: 16,
-    },
-    Word {
-        name: b"URG",
-        number: 32,
-    },
-];
-
-fn proto_named(text: &[u8]) -> Option<u8>
-    ensures { result ≡ number_in proto_names text.now }
-{
-    number_of(&PROTOCOLS, text)
-}
-
-fn flag_named(text: &[u8]) -> Option<u8>
-    ensures { result ≡ flag_of text.now }
-{
-    number_of(&FLAGS, text)
-}
+use basics::parted;
 
 /// Reads a connection's state, as iptables-extensions(8) names it for conntrack: INVALID is 0, NEW 1, RELATED 2,
 /// ESTABLISHED 3 and UNTRACKED 4. None exactly where the text is none of these names.
+#[tactic(auto, unfolding(crate::specs::Tables::state_names))]
 pub fn read_state(text: &[u8]) -> Option<u8>
     ensures { result ≡ number_in state_names text.now }
 {
     number_of(&STATES, text)
+}
+
+#[tactic(auto, unfolding(crate::specs::Tables::proto_names))]
+fn proto_named(text: &[u8]) -> Option<u8>
+    ensures { result ≡ number_in proto_names text.now }
+{
+    number_of(&PROTOCOLS, text)
 }
 
 /// Reads a protocol: a name that iptables(8) or its extensions give it (icmp 1, igmp 2, tcp 6, udp 17, dccp 33, gre 47,
@@ -167,39 +49,55 @@ fn byte_number(text: &[u8]) -> Option<u8>
     }
 }
 
-/// What stands before the first comma, and after it.
-fn parted(text: &[u8]) -> Option<(&[u8], &[u8])>
-    ensures some { IfSome result (λ p. (text.now ≡ p.0.now ++ 44 ∷ p.1.now) × All (λ b. b ≢ 44) p.0.now) }
-    ensures none { IfNone result (All (λ b. b ≢ 44) text.now) }
+/// The number in which the bit of this place alone is set.
+fn bit(place: u8) -> u8
+    requires { place < 8 }
+    ensures { result ≡ 2 ^ place }
 {
-    for (i, byte) in text.iter().enumerate() {
-        if *byte == b',' {
-            return Some((&text[..i], &text[i + 1..]));
-        }
-    }
-    None
+    1 << place
 }
 
-/// The flags that the parts between commas name together. None where some part is no flag's name.
-fn flags_of_parts(text: &[u8]) -> Option<u8>
-    ensures { result ≡ flags_of (slice_split (λ b. b == 44) text.now) }
+/// The bit of the number of the first word of that name.
+fn bit_named(words: &[Word], text: &[u8]) -> Option<u8>
+    requires { are_places (map named words.now) ≡ true }
+    ensures { result ≡ bit_in (map named words.now) text.now }
+{
+    match number_of(words, text) {
+        Some(place) => Some(bit(place)),
+        None => None,
+    }
+}
+
+/// The bits of the words between commas together. None where some part is none of the words.
+fn bits_of_list(words: &[Word], text: &[u8]) -> Option<u8>
+    requires { are_places (map named words.now) ≡ true }
+    ensures { result ≡ bits_in (map named words.now) (comma_parts text.now) }
 {
     let mut rest = text;
-    let mut flags = 0;
-    while let Some((part, after)) = parted(rest) {
-        flags |= flag_named(part)?;
+    let mut bits = 0;
+    while let Some((part, after)) = parted(rest, b',') {
+        bits |= bit_named(words, part)?;
         rest = after;
     }
-    let last = flag_named(rest)?;
-    Some(flags | last)
+    let last = bit_named(words, rest)?;
+    Some(bits | last)
+}
+
+/// Reads names of states with commas between them: the bit of each state's number is set. A name may stand there twice.
+/// None exactly where some part is no state's name.
+#[tactic(auto, unfolding(crate::specs::Tables::state_names))]
+pub fn read_states(text: &[u8]) -> Option<u8>
+    ensures { result ≡ bits_in state_names (comma_parts text.now) }
+{
+    bits_of_list(&STATES, text)
 }
 
 /// Reads names of flags with commas between them.
+#[tactic(auto, unfolding(crate::specs::Tables::flag_names))]
 fn read_flag_list(text: &[u8]) -> Option<u8>
-    ensures some { IfSome result (IsFlagList text.now) }
-    ensures none { IfNone result ((flags : ℕ) → IsFlagList text.now flags → ⊥) }
+    ensures { result ≡ bits_in flag_names (comma_parts text.now) }
 {
-    flags_of_parts(text)
+    bits_of_list(&FLAGS, text)
 }
 
 /// Reads flags of tcp, as `--tcp-flags` of iptables-extensions(8) has them: ALL is 63, NONE is 0, and else names of

@@ -1,6 +1,7 @@
 -- A printed dump is settled, and says nothing unknown: the asked chain calls helper chains alone, and these call nothing.
 use Rattle.std.proofs.Common.{◌≡◌, ℕ, zero, suc, ◌+◌, ◌<◌, ◌≤◌, ◌⊎◌, inl, inr, List, [], ◌∷◌, length, Bool, true, false, ◌&&◌, nat_lt, Option, None, Some, refl, sym, subst, ◌∙◌, ap, arith}
 use Rattle.std.specs.Prelude.{slice_get, if◌then◌else◌, Contains}
+use Rattle.std.specs.Option.{option_and_then}
 use Rattle.std.specs.List.{AllByRecursion, flat_map}
 use Rattle.std.proofs.lemmas.Bool.{and_parts}
 use Rattle.std.proofs.lemmas.Bool.Decides.{nat_tests}
@@ -11,15 +12,15 @@ use Rattle.fw_rule.specs.declared.rule.Verdict.{Verdict}
 use Rattle.fw_rule.specs.declared.rule.Rule.{Rule}
 use Rattle.fw_rule.specs.declared.rule.Chain.{Chain}
 use Rattle.fw_rule.specs.declared.rule.Dump.{Dump}
-use Rattle.fw_rule.specs.Walk.{Calls, Here, Over, Reaches, RuleOf, Settled, doubt_in}
+use Rattle.fw_rule.specs.Answers.{NothingUnknown}
+use Rattle.fw_rule.specs.Walk.{Calls, Here, Over, Reaches, RuleOf, Settled, doubt_in, target_of}
 use Rattle.box_norm.specs.declared.cube.SimpleRule.{SimpleRule}
 use Rattle.dump_grammar.specs.Lines.{Text}
 use Rattle.dump_print.specs.CubeLines.{choices_of}
 use Rattle.dump_print.specs.Helpers.{helped_from, needs_helper}
-use Rattle.printed_filter.specs.Laws.{NothingUnknown}
 use Rattle.printed_filter.specs.PrintedDump.{Helper, Said, asked_rules, helper_chains_from, helper_rules, helpers_of, placed_from, printed_dump, returns_of, verdict_action}
 use Rattle.printed_filter.proofs.RuleWalk.{lines_do, returns_back}
-use Rattle.printed_filter.proofs.Truths.{all_joined}
+use Rattle.basics.proofs.Lists.{each_append}
 use Rattle.printed_filter.proofs.WalkOver.{Does}
 
 -- whether the action is supported, and what it calls is one of the first `count` chains, but not the first of all
@@ -37,6 +38,15 @@ verdict_allowed count false = refl
 
 call_allowed : (count k : ℕ) → 1 ≤ k → k < count → is_allowed count (Action.Call k) ≡ true
 call_allowed count k l h = grind (arith, nat_tests)
+
+-- an action that leads to a chain calls it
+call_is : (action : Action) (k : ℕ) → target_of action ≡ Some k → action ≡ Action.Call k
+call_is Action.Accept k e = let wrong : None ≡ Some k = e in absurd (cc wrong)
+call_is Action.Drop k e = let wrong : None ≡ Some k = e in absurd (cc wrong)
+call_is Action.Pass k e = let wrong : None ≡ Some k = e in absurd (cc wrong)
+call_is Action.Back k e = let wrong : None ≡ Some k = e in absurd (cc wrong)
+call_is (Action.Call j) k e = let f : Some j ≡ Some k = e in let same : j ≡ k = cc in ap Action.Call same
+call_is (Action.Other name) k e = let wrong : None ≡ Some k = e in absurd (cc wrong)
 
 module _ (W : ℕ) (count : ℕ) where
   pub record IsFine (said : Said W) : Type 0 where
@@ -68,12 +78,12 @@ module _ (W : ℕ) (count : ℕ) where
           AllByRecursion IsFine (flat_map asked_rules
           (if b then record { rule = rule; helper = Some next } ∷ helped_from (next + 1) rules else record { rule = rule; helper = None } ∷ helped_from next rules))
       asked_by true h plain helped =
-          all_joined IsFine (asked_rules (record { rule = rule; helper = Some next })) (flat_map asked_rules (helped_from (next + 1) rules))
+          each_append IsFine (asked_rules (record { rule = rule; helper = Some next })) (flat_map asked_rules (helped_from (next + 1) rules))
           (do_fine (Action.Call next) (asked_rules (record { rule = rule; helper = Some next })) (call_allowed count next l (omega arith))
           (lines_do W rule.cube (Action.Call next) (choices_of rule.cube)))
           (helped (omega arith))
       asked_by false h plain helped =
-          all_joined IsFine (asked_rules (record { rule = rule; helper = None })) (flat_map asked_rules (helped_from next rules))
+          each_append IsFine (asked_rules (record { rule = rule; helper = None })) (flat_map asked_rules (helped_from next rules))
           (do_fine (verdict_action rule.accept) (asked_rules (record { rule = rule; helper = None })) (verdict_allowed count rule.accept)
           (lines_do W rule.cube (verdict_action rule.accept) (choices_of rule.cube)))
           (plain h)
@@ -84,7 +94,7 @@ module _ (W : ℕ) where
 
   helper_fine : (rule : SimpleRule W) → AllByRecursion (IsFine W 0) (helper_rules rule)
   helper_fine rule =
-      all_joined (IsFine W 0) (returns_of rule.cube) _ (do_fine W 0 Action.Back (returns_of rule.cube) refl (returns_back W rule.cube))
+      each_append (IsFine W 0) (returns_of rule.cube) _ (do_fine W 0 Action.Back (returns_of rule.cube) refl (returns_back W rule.cube))
       (record { allowed = verdict_allowed 0 rule.accept; known = refl }, tt)
 
   helpers_fine : (rules : List (SimpleRule W)) (next : ℕ) → AllByRecursion HasFine (helpers_of (helped_from next rules))
@@ -136,10 +146,10 @@ module _ {W : ℕ} (dump : Dump (Prim_ W)) (first : Chain (Prim_ W)) (others : L
     where
       by : IsOf a q.0 → (a ≡ 0) × (0 < b) × (b < count)
       by (inl f) =
-          let e = and_parts (nat_lt 0 b) (nat_lt b count) (sym (ap (is_allowed count) q.2) ∙ f.1.allowed) in
+          let e = and_parts (nat_lt 0 b) (nat_lt b count) (sym (ap (is_allowed count) (call_is q.0.action b q.2)) ∙ f.1.allowed) in
           (f.0, grind (arith, nat_tests, e.0), grind (arith, nat_tests, e.1))
       by (inr f) =
-          let e = and_parts (nat_lt 0 b) (nat_lt b 0) (sym (ap (is_allowed 0) q.2) ∙ f.allowed) in
+          let e = and_parts (nat_lt 0 b) (nat_lt b 0) (sym (ap (is_allowed 0) (call_is q.0.action b q.2)) ∙ f.allowed) in
           absurd (grind (arith, nat_tests, e.1))
 
   supported : (a : ℕ) (rule : Rule (Prim_ W)) (name : List ℕ) → RuleOf dump a rule → rule.action ≡ Action.Other name → ⊥
@@ -155,7 +165,7 @@ module _ {W : ℕ} (dump : Dump (Prim_ W)) (first : Chain (Prim_ W)) (others : L
 
   pub shape_settled : (v : Verdict) → first.policy ≡ Some v → Settled dump 0
   shape_settled v own = record {
-    policy = (first, v, ap (λ (xs : List (Chain (Prim_ W))). slice_get xs 0) is, own);
+    policy = (v, ap (λ (xs : List (Chain (Prim_ W))). option_and_then (λ (here : Chain (Prim_ W)). here.policy) (slice_get xs 0)) is ∙ own);
     named = λ a b r q. let c = called a b q in subst (λ (xs : List (Chain (Prim_ W))). b < length xs) (sym is) c.2;
     known_targets = λ a rule name r h e. supported a rule name h e;
     no_loop = λ a b r q l. let c = called a b q in back_at a b c.1 c.0 l;

@@ -11,7 +11,7 @@ use Rattle.fw_rule.specs.declared.rule.Lit.{Lit}
 use Rattle.box_norm.specs.declared.cube.Cube.{Cube}
 use Rattle.box_norm.specs.Cubes.{holds_cube}
 use Rattle.box_norm.specs.Regular.{IsRegular}
-use Rattle.dump_grammar.specs.Arguments.{source_ports, destination_ports}
+use Rattle.opt_table.specs.Options.{destination_ports, source_ports}
 use Rattle.dump_print.specs.declared.protocols.Protocols.{Protocols}
 use Rattle.dump_print.specs.CubeLines.{axes_of, choices_of}
 use Rattle.dump_print.specs.FlagCover.{CoverFlags}

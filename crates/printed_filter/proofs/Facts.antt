@@ -8,7 +8,8 @@ use Rattle.match_expr.specs.declared.expr.Expr.TheOpen.{Expr-F}
 use Rattle.match_expr.specs.declared.expr.Expr.TheFolds.{fold-roll-Expr}
 use Rattle.fw_rule.specs.declared.rule.Lit.{Lit}
 use Rattle.fw_rule.specs.Walk.{Path, Meaning, known_holds, literals_hold, is_unknown, doubt_in}
-use Rattle.printed_filter.proofs.Truths.{and_assoc, and_true}
+use Rattle.basics.proofs.Truths.{and_assoc}
+use Rattle.printed_filter.proofs.Truths.{and_true}
 
 pub eval-Prim : {P : Type 0} (test : P → Bool) (x : P) → eval_of test (Prim x) ≡ test x
 eval-Prim {P} test x = ap (eval_of test) (sym (rolls-Prim x)) ∙ fold-roll-Expr P Bool (truth test) (Expr-F.Prim x)
@@ -23,7 +24,7 @@ module _ {P Packet : Type 0} (holds : P → Packet → Bool) (p : Packet) where
   pub facts-append : (a b : List (Lit P)) → facts (a ++ b) ≡ (facts a && facts b)
   facts-append [] b = refl
   facts-append (Lit.Known neg expr ∷ a) b =
-      ap (λ x. known_holds holds p neg expr && x) (facts-append a b) ∙ and_assoc (known_holds holds p neg expr) (facts a) (facts b)
+      ap (λ x. known_holds holds p neg expr && x) (facts-append a b) ∙ sym (and_assoc (known_holds holds p neg expr) (facts a) (facts b))
   facts-append (Lit.Unknown text ∷ a) b = refl
 
   -- known literals hold at any place where they are facts

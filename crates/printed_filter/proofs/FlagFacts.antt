@@ -21,7 +21,7 @@ use Rattle.dump_print.specs.Protocols.{protocols_of}
 use Rattle.printed_filter.specs.Literals.{flags_literals, yes}
 use Rattle.printed_filter.proofs.Facts.{facts, one_fact}
 use Rattle.printed_filter.proofs.PortFacts.{nothing, own_part}
-use Rattle.printed_filter.proofs.Truths.{all_joined}
+use Rattle.basics.proofs.Lists.{each_append}
 
 -- no flag of comp is outside of mask: what matters here is an empty mask
 abbrev Fits : FlagCube → Type 0
@@ -44,7 +44,7 @@ all_fit (suc count) has =
     (if b then map (beside 0 0) (flag_cubes count (λ n. has (2 * n)))
     else map (beside 1 0) (flag_cubes count (λ n. has (2 * n))) ++ map (beside 1 1) (flag_cubes count (λ n. has (2 * n + 1))))) [
       | true ↦ all_beside 0 0 (flag_cubes count (λ n. has (2 * n))) (omega arith) even
-      | false ↦ all_joined Fits (map (beside 1 0) (flag_cubes count (λ n. has (2 * n)))) (map (beside 1 1) (flag_cubes count (λ n. has (2 * n + 1))))
+      | false ↦ each_append Fits (map (beside 1 0) (flag_cubes count (λ n. has (2 * n)))) (map (beside 1 1) (flag_cubes count (λ n. has (2 * n + 1))))
           (all_beside 1 0 (flag_cubes count (λ n. has (2 * n))) (omega arith) even) (all_beside 1 1 (flag_cubes count (λ n. has (2 * n + 1))) (omega arith) odd)
     ]
 

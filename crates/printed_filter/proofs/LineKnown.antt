@@ -5,7 +5,7 @@ use Rattle.primitives.specs.declared.prim.Prim_.{Prim_}
 use Rattle.fw_rule.specs.declared.rule.Lit.{Lit}
 use Rattle.fw_rule.specs.Walk.{doubt_in}
 use Rattle.box_norm.specs.declared.cube.Cube.{Cube}
-use Rattle.dump_grammar.specs.Arguments.{source_ports, destination_ports}
+use Rattle.opt_table.specs.Options.{destination_ports, source_ports}
 use Rattle.dump_print.specs.declared.protocols.Protocols.{Protocols}
 use Rattle.dump_print.specs.Parts.{Choice}
 use Rattle.dump_print.specs.Protocols.{protocols_of}

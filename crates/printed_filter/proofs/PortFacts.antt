@@ -17,7 +17,7 @@ use Rattle.fw_rule.specs.declared.rule.Lit.{Lit}
 use Rattle.fw_rule.specs.Walk.{doubt_in}
 use Rattle.box_norm.specs.Pieces.{single}
 use Rattle.box_norm.specs.Regular.{full, HasPortsAlone}
-use Rattle.dump_grammar.specs.Arguments.{source_ports, destination_ports}
+use Rattle.opt_table.specs.Options.{destination_ports, source_ports}
 use Rattle.dump_print.specs.declared.protocols.Protocols.{Protocols}
 use Rattle.dump_print.specs.Addresses.{is_everything}
 use Rattle.dump_print.specs.Ports.{Ports, chunks, has_port_module, port_choices}

@@ -1,18 +1,7 @@
--- Truths, whether some element of a list passes, and what holds of each.
-use Rattle.std.proofs.Common.{◌≡◌, List, [], ◌∷◌, ◌++◌, Bool, true, false, ◌&&◌, ◌||◌, map, refl, sym, ◌∙◌, ap}
-use Rattle.std.specs.List.{AllByRecursion, flat_map, list_any}
+-- Truths, and whether some element of a list passes.
+use Rattle.std.proofs.Common.{◌≡◌, List, [], ◌∷◌, Bool, true, false, ◌&&◌, ◌||◌, map, refl, ◌∙◌, ap}
+use Rattle.std.specs.List.{flat_map, list_any}
 use Rattle.std.proofs.lemmas.List.Folds.{list_any-append}
-
--- two tests of which each implies the other are one
-pub same_truth : (a b : Bool) → (a ≡ true → b ≡ true) → (b ≡ true → a ≡ true) → a ≡ b
-same_truth true true f g = refl
-same_truth true false f g = sym (f refl)
-same_truth false true f g = g refl
-same_truth false false f g = refl
-
-pub and_assoc : (a b c : Bool) → (a && (b && c)) ≡ ((a && b) && c)
-and_assoc true b c = refl
-and_assoc false b c = refl
 
 pub and_true : (a : Bool) → (a && true) ≡ a
 and_true true = refl
@@ -59,7 +48,3 @@ module _ {X Y : Type 0} (f : Y → Bool) where
   pub any_flat : (g : X → List Y) (xs : List X) → list_any f (flat_map g xs) ≡ list_any (λ x. list_any f (g x)) xs
   any_flat g [] = refl
   any_flat g (x ∷ xs) = list_any-append f (g x) (flat_map g xs) ∙ ap (λ b. list_any f (g x) || b) (any_flat g xs)
-
-pub all_joined : {X : Type 0} (P : X → Type 0) (a b : List X) → AllByRecursion P a → AllByRecursion P b → AllByRecursion P (a ++ b)
-all_joined P [] b h k = k
-all_joined P (x ∷ a) b h k = (h.0, all_joined P a b h.1 k)

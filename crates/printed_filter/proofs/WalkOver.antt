@@ -1,4 +1,4 @@
--- Walks over rules that all do the same.
+-- Walks over rules that all do the same. The walk has this policy.
 use Rattle.std.proofs.Common.{◌≡◌, ℕ, zero, suc, ◌+◌, List, [], ◌∷◌, ◌++◌, Bool, true, false, ◌||◌, Option, Some, refl, ◌∙◌, ap, arith}
 use Rattle.std.specs.Prelude.{slice_get, if◌then◌else◌}
 use Rattle.std.specs.List.{AllByRecursion, list_any}
@@ -6,6 +6,7 @@ use Rattle.std.proofs.lemmas.Option.{option_and_then_some}
 use Rattle.primitives.specs.declared.prim.Packet.{Packet}
 use Rattle.primitives.specs.declared.prim.Prim_.{Prim_}
 use Rattle.primitives.specs.Holds.{holds_of}
+use Rattle.fw_rule.specs.declared.rule.Verdict.{Verdict}
 use Rattle.fw_rule.specs.declared.rule.Action.{Action}
 use Rattle.fw_rule.specs.declared.rule.Rule.{Rule}
 use Rattle.fw_rule.specs.declared.rule.Chain.{Chain}
@@ -34,18 +35,18 @@ pub record Does {W : ℕ} (action : Action) (said : Said W) : Type 0 where
   pub does : said.action ≡ action
   pub known : doubt_in said.literals ≡ false
 
-module _ {W : ℕ} (dump : Dump (Prim_ W)) (p : Packet) (m : Meaning) where
+module _ {W : ℕ} (dump : Dump (Prim_ W)) (p : Packet) (m : Meaning) (policy : Option Verdict) where
   -- some steps lead from the one state to the other
   abbrev pub Goes : State → State → Type 0
-  Goes s t = (k : ℕ) × (after holds_of dump p m k s ≡ Some t)
+  Goes s t = (k : ℕ) × (after holds_of dump p m policy k s ≡ Some t)
 
-  pub one_step : (s t u : State) → step holds_of dump p m s ≡ Some t → Goes t u → Goes s u
+  pub one_step : (s t u : State) → step holds_of dump p m policy s ≡ Some t → Goes t u → Goes s u
   one_step s t u e h = (suc h.0, rw e h.1)
 
-  many_steps : (j : ℕ) (s t u : State) → after holds_of dump p m j s ≡ Some t → Goes t u → Goes s u
+  many_steps : (j : ℕ) (s t u : State) → after holds_of dump p m policy j s ≡ Some t → Goes t u → Goes s u
   many_steps zero s t u e h = let q : s ≡ t = cc in (h.0, rw q h.1)
   many_steps (suc j) s t u e h =
-      option_and_then_some (after holds_of dump p m j) (step holds_of dump p m s) t e (λ x is g. one_step s x u is (many_steps j x t u g h))
+      option_and_then_some (after holds_of dump p m policy j) (step holds_of dump p m policy s) t e (λ x is g. one_step s x u is (many_steps j x t u g h))
 
   pub then_goes : (s t u : State) → Goes s t → Goes t u → Goes s u
   then_goes s t u g h = many_steps g.0 s t u g.1 h
@@ -64,15 +65,15 @@ module _ {W : ℕ} (dump : Dump (Prim_ W)) (p : Packet) (m : Meaning) where
 
   module _ (c : ℕ) (here : Chain (Prim_ W)) (at_c : slice_get dump.chains c ≡ Some here) (path : Path) (frames : List Frame) where
     at_rule : (n : ℕ) (o : Option (Rule (Prim_ W))) → slice_get here.rules n ≡ o →
-        step holds_of dump p m (At c n path frames) ≡ step_at holds_of dump p m c n path frames here o
+        step holds_of dump p m policy (At c n path frames) ≡ step_at holds_of dump p m policy c n path frames o
     at_rule n o e = rw (at_c, e) refl
 
     abbrev acts : ℕ → Action → Option State
-    acts n action = act here.policy c n path frames action
+    acts n action = act policy c n path frames action
 
     stepped : (n k : ℕ) (said : Said W) (rest : List (Said W)) → RestAt here.rules n (placed_from k (said ∷ rest)) → doubt_in said.literals ≡ false →
         (b : Bool) → hits said ≡ b →
-        step holds_of dump p m (At c n path frames) ≡ (if b then acts n said.action else Some (At c (n + 1) path frames))
+        step holds_of dump p m policy (At c n path frames) ≡ (if b then acts n said.action else Some (At c (n + 1) path frames))
     stepped n k said rest at known b e =
         at_rule n (Some (record { lits = said.literals; action = said.action; line = k })) (rest_first here.rules n _ (placed_from (k + 1) rest) at)
         ∙ ap (λ (x : Bool). if x then acts n said.action else Some (At c (n + 1) path frames))

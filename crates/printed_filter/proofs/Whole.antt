@@ -24,7 +24,7 @@ means {W} chain policy rules printable flags ports = record {
   settled = dump_settled chain policy rules;
   nothing_unknown = nothing_unknown chain policy rules;
   known = λ c rule reached of. nothing_unknown chain policy rules c rule of;
-  walks = λ p valid m. answers (printed_dump chain policy rules) p m policy valid ports flags (asked_chain chain policy rules) refl refl
+  walks = λ p valid m. answers (printed_dump chain policy rules) p m policy valid ports flags (asked_chain chain policy rules) refl
       rules printable.sets printable.regular 1 0 (3 + length (helpers chain policy rules)) (3 + length (helpers chain policy rules) + length (asked chain policy rules))
       (after_first (asked_chain chain policy rules) (chains_after chain policy rules)) (rest_whole (asked_chain chain policy rules).rules);
 }

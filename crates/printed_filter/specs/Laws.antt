@@ -3,16 +3,16 @@ use Rattle.std.specs.Prelude.{ℕ, ◌≡◌, true, false, Bool, List, Option, S
 use Rattle.primitives.specs.declared.prim.Packet.{Packet}
 use Rattle.primitives.specs.Holds.{holds_of, IsValid}
 use Rattle.fw_rule.specs.declared.rule.Verdict.{Verdict}
-use Rattle.fw_rule.specs.declared.rule.Rule.{Rule}
 use Rattle.fw_rule.specs.declared.rule.Chain.{Chain}
 use Rattle.fw_rule.specs.declared.rule.Dump.{Dump}
-use Rattle.fw_rule.specs.Walk.{Meaning, RuleOf, Settled, Walks, doubt_in}
+use Rattle.fw_rule.specs.Answers.{NothingUnknown}
+use Rattle.fw_rule.specs.Walk.{Meaning, Settled, Walks}
 use Rattle.box_norm.specs.declared.cube.SimpleRule.{SimpleRule}
 use Rattle.box_norm.specs.Normal.{first_of}
 use Rattle.box_norm.specs.Regular.{EachCube, HasStates, IsRegular}
 use Rattle.fw_laws.specs.Known.{KnownAlone}
 use Rattle.dump_grammar.specs.Lines.{Text}
-use Rattle.dump_print.specs.Sets.{HasSets}
+use Rattle.box_norm.specs.Sets.{HasSets}
 use Rattle.printed_filter.specs.PrintedDump.{printed_dump}
 
 -- the verdict of the first rule that holds, or else of the policy
@@ -26,10 +26,6 @@ pub record ArePrintable {W : ℕ} (rules : List (SimpleRule W)) : Type 0 where
   pub sets : EachCube HasSets rules
   pub regular : EachCube IsRegular rules
   pub states : EachCube HasStates rules
-
--- no rule of any chain has an unknown literal
-abbrev pub NothingUnknown : {P : Type 0} → Dump P → Type 0
-NothingUnknown {P} dump = (chain : ℕ) (rule : Rule P) → RuleOf dump chain rule → doubt_in rule.lits ≡ false
 
 -- the first chain of the dump has this name and this policy
 abbrev pub StartsWith : {P : Type 0} → Dump P → Text → Verdict → Type 0

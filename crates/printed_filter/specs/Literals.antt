@@ -8,7 +8,7 @@ use Rattle.name_set.specs.declared.set.NameSet.{NameSet}
 use Rattle.primitives.specs.declared.prim.Prim_.{Prim_}
 use Rattle.fw_rule.specs.declared.rule.Lit.{Lit}
 use Rattle.box_norm.specs.declared.cube.Cube.{Cube}
-use Rattle.dump_grammar.specs.Arguments.{source_ports, destination_ports}
+use Rattle.opt_table.specs.Options.{destination_ports, source_ports}
 use Rattle.dump_print.specs.declared.flags.FlagCube.{FlagCube}
 use Rattle.dump_print.specs.declared.protocols.Protocols.{Protocols}
 use Rattle.dump_print.specs.Addresses.{is_everything, prefix_length}

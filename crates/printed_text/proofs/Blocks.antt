@@ -19,7 +19,8 @@ use Rattle.dump_grammar.specs.RuleLines.{IsRuleLine}
 use Rattle.dump_grammar.specs.Tables.{AreChainLines, AreRuleLines, Placed, names_of}
 use Rattle.dump_print.specs.Printed.{chain_words}
 use Rattle.printed_filter.specs.PrintedDump.{Said, placed_from}
-use Rattle.printed_text.proofs.ListLemmas.{all_both, all_joined, all_since, bytes_differ, bytes_same, filter_in, filter_out}
+use Rattle.basics.proofs.Lists.{each_append, each_both, each_weaker}
+use Rattle.printed_text.proofs.ListLemmas.{bytes_differ, bytes_same, filter_in, filter_out}
 use Rattle.printed_text.proofs.TextLines.{IsPrinted, line_of, numbered_joined}
 
 -- a rule line: its words, and what it says
@@ -119,7 +120,7 @@ module _ {W : ℕ} where
       → AllByRecursion (λ (b : Block W). b.name ≢ block.name) blocks
       → AllByRecursion (λ (b : Block W). filter (is_in b.name) (before ++ places block.name n block.lines) ≡ []) blocks
   none_before before n block blocks none apart =
-      all_both (λ (b : Block W). filter (is_in b.name) before ≡ []) (λ (b : Block W). b.name ≢ block.name)
+      each_both (λ (b : Block W). filter (is_in b.name) before ≡ []) (λ (b : Block W). b.name ≢ block.name)
       (λ (b : Block W). filter (is_in b.name) (before ++ places block.name n block.lines) ≡ [])
       (λ b empty ne. filter-append (is_in b.name) before (places block.name n block.lines)
       ∙ ap₂ (λ (x y : List (Placed W)). x ++ y) empty (filter_other block.name b.name n block.lines (bytes_differ block.name b.name (λ e. ne (sym e)))))
@@ -162,7 +163,7 @@ module _ {W : ℕ} where
       → AllByRecursion (λ (p : Placed W). is_among names p.rule.chain ≡ true) (all_places n blocks)
   all_declared names n [] e = tt
   all_declared names n (block ∷ blocks) e =
-      all_joined _ (places block.name n block.lines) (all_places (n + length block.lines) blocks)
+      each_append _ (places block.name n block.lines) (all_places (n + length block.lines) blocks)
       (places_declared names block.name n block.lines e.0) (all_declared names (n + length block.lines) blocks e.1)
 
   abbrev pub block_names : List (Block W) → List Text
@@ -172,7 +173,7 @@ module _ {W : ℕ} where
   each_among [] = tt
   each_among (block ∷ blocks) = (
     or_left (bytes_eq block.name block.name) (is_among (block_names blocks) block.name) (bytes_same block.name),
-    all_since (λ (b : Block W). is_among (block_names blocks) b.name ≡ true) (λ (b : Block W). is_among (block_names (block ∷ blocks)) b.name ≡ true)
+    each_weaker (λ (b : Block W). is_among (block_names blocks) b.name ≡ true) (λ (b : Block W). is_among (block_names (block ∷ blocks)) b.name ≡ true)
         (λ b e. or_right (bytes_eq block.name b.name) (is_among (block_names blocks) b.name) e) blocks (each_among blocks),
   )
 
@@ -240,7 +241,7 @@ module _ {W : ℕ} (Reads : Text → ℕ → Type 0) (names : List Text) where
   pub all_printed : (blocks : List (Block W)) → AllByRecursion HasGoodRules blocks → AllByRecursion IsPrinted (all_words blocks)
   all_printed [] good = tt
   all_printed (block ∷ blocks) good =
-      all_joined IsPrinted (words_of block.lines) (all_words blocks) (rules_printed block.name block.lines good.0) (all_printed blocks good.1)
+      each_append IsPrinted (words_of block.lines) (all_words blocks) (rules_printed block.name block.lines good.0) (all_printed blocks good.1)
 
 pub chains_printed : {W : ℕ} (blocks : List (Block W)) → AllByRecursion IsGoodChain blocks → AllByRecursion IsPrinted (map chain_line blocks)
 chains_printed [] good = tt

@@ -12,7 +12,7 @@ use Rattle.dump_grammar.specs.Lines.{Text, bare}
 use Rattle.dump_print.specs.Helpers.{helper_name}
 use Rattle.dump_print.specs.Printed.{chain_words}
 use Rattle.dump_print.specs.Written.{KeepsWords}
-use Rattle.printed_text.proofs.ListLemmas.{all_joined}
+use Rattle.basics.proofs.Lists.{each_append}
 use Rattle.printed_text.proofs.TextLines.{IsPrinted, is_printed}
 use Rattle.printed_text.proofs.WordLemmas.{CanStand, IsClean, clean_decimal, clean_from, clean_is_written, code_is_written}
 
@@ -23,7 +23,7 @@ AreDigits text = AllByRecursion IsDigit text
 pub decimal_digits : (n : ℕ) → n < 2 ^ 64 → AreDigits (decimal n)
 decimal_digits n small = decimal_by_steps (λ m ds. AreDigits ds)
     (λ m low. ((omega arith, omega arith), tt))
-    (λ m ds low front. all_joined IsDigit ds ((48 + m % 10) ∷ []) front ((omega arith, omega arith), tt)) n small
+    (λ m ds low front. each_append IsDigit ds ((48 + m % 10) ∷ []) front ((omega arith, omega arith), tt)) n small
 
 -- `C` and digits are no target's word
 no_target : (digits : Text) → AreDigits digits → is_among target_words (67 ∷ digits) ≡ false

@@ -13,64 +13,66 @@ use Rattle.box_norm.specs.Regular.{HasPortsAlone, IsRegular, full}
 use Rattle.dump_grammar.specs.Arguments.{IsPortList, IsPortRange}
 use Rattle.dump_print.specs.declared.flags.FlagCube.{FlagCube}
 use Rattle.dump_print.specs.declared.protocols.Protocols.{Protocols}
-use Rattle.dump_print.specs.Addresses.{IsRangeOf, is_everything}
+use Rattle.primitives.specs.Ranges.{IsRange}
+use Rattle.dump_print.specs.Addresses.{is_everything}
 use Rattle.dump_print.specs.CubeLines.{axes_of, choices_of}
 use Rattle.dump_print.specs.Flags.{all_below, beside, cubes_of, flag_cubes, same_truth}
 use Rattle.dump_print.specs.Parts.{Axes, Choice, between, choices_in, with_destinations, with_dports, with_flags, with_sports}
 use Rattle.dump_print.specs.PortCover.{CoverPorts}
 use Rattle.dump_print.specs.Ports.{Ports, chunks, has_port_module, port_choices, port_list, weight_of}
 use Rattle.dump_print.specs.Protocols.{protocols_of}
-use Rattle.dump_print.specs.Sets.{HasSets}
-use Rattle.dump_print.proofs.AddressLemmas.{ranges_of}
+use Rattle.box_norm.specs.Sets.{HasSets}
+use Rattle.primitives.proofs.RangeLemmas.{ranges_of}
 use Rattle.printed_text.proofs.ProtocolParts.{single_only}
 use Rattle.printed_text.proofs.PortParts.{HasOnePorts, IsFlagCube, IsReadable}
-use Rattle.printed_text.proofs.ListLemmas.{all_joined, flat_since, map_since}
+use Rattle.basics.proofs.Lists.{each_append}
+use Rattle.printed_text.proofs.ListLemmas.{flat_since, map_since}
 
 -- ---- the choices
 -- each part of what the line says can be said
 pub record IsSayable (W : ℕ) (protocols : Protocols) (line : Choice) : Type 0 where
-  pub source : IsRangeOf W line.source
-  pub destination : IsRangeOf W line.destination
+  pub source : IsRange W line.source
+  pub destination : IsRange W line.destination
   pub sports : IsReadable protocols line.sports
   pub dports : IsReadable protocols line.dports
   pub flags : IsFlagCube protocols line.flags
 
 -- so can each part of what the lines say
 record AreSayable (W : ℕ) (protocols : Protocols) (axes : Axes) : Type 0 where
-  sources : AllByRecursion (IsRangeOf W) axes.sources
-  destinations : AllByRecursion (IsRangeOf W) axes.destinations
+  sources : AllByRecursion (IsRange W) axes.sources
+  destinations : AllByRecursion (IsRange W) axes.destinations
   sports : AllByRecursion (IsReadable protocols) axes.sports
   dports : AllByRecursion (IsReadable protocols) axes.dports
   flags : AllByRecursion (IsFlagCube protocols) axes.flags
 
 module _ (W : ℕ) (protocols : Protocols) (axes : Axes) (are : AreSayable W protocols axes) where
-  flags_sayable : (line : Choice) → IsRangeOf W line.source → IsRangeOf W line.destination → IsReadable protocols line.sports → IsReadable protocols line.dports
+  flags_sayable : (line : Choice) → IsRange W line.source → IsRange W line.destination → IsReadable protocols line.sports → IsReadable protocols line.dports
       → AllByRecursion (IsSayable W protocols) (with_flags line axes.flags)
   flags_sayable line source destination sports dports =
       map_since (IsFlagCube protocols) (IsSayable W protocols) (λ cube. record line { flags = cube })
       (λ cube is. record { source = source; destination = destination; sports = sports; dports = dports; flags = is }) axes.flags are.flags
 
-  dports_sayable : (line : Choice) → IsRangeOf W line.source → IsRangeOf W line.destination → IsReadable protocols line.sports
+  dports_sayable : (line : Choice) → IsRange W line.source → IsRange W line.destination → IsReadable protocols line.sports
       → AllByRecursion (IsSayable W protocols) (with_dports line axes)
   dports_sayable line source destination sports =
       flat_since (IsReadable protocols) (IsSayable W protocols) (λ ports. with_flags (record line { dports = ports }) axes.flags)
       (λ ports is. flags_sayable (record line { dports = ports }) source destination sports is) axes.dports are.dports
 
-  sports_sayable : (line : Choice) → IsRangeOf W line.source → IsRangeOf W line.destination → AllByRecursion (IsSayable W protocols) (with_sports line axes)
+  sports_sayable : (line : Choice) → IsRange W line.source → IsRange W line.destination → AllByRecursion (IsSayable W protocols) (with_sports line axes)
   sports_sayable line source destination =
       flat_since (IsReadable protocols) (IsSayable W protocols) (λ ports. with_dports (record line { sports = ports }) axes)
       (λ ports is. dports_sayable (record line { sports = ports }) source destination is) axes.sports are.sports
 
-  destinations_sayable : (source : Range) → IsRangeOf W source → AllByRecursion (IsSayable W protocols) (with_destinations source axes)
+  destinations_sayable : (source : Range) → IsRange W source → AllByRecursion (IsSayable W protocols) (with_destinations source axes)
   destinations_sayable source is =
-      flat_since (IsRangeOf W) (IsSayable W protocols) (λ destination. with_sports (between source destination) axes)
+      flat_since (IsRange W) (IsSayable W protocols) (λ destination. with_sports (between source destination) axes)
       (λ destination same. sports_sayable (between source destination) is same) axes.destinations are.destinations
 
   all_sayable : AllByRecursion (IsSayable W protocols) (choices_in axes)
-  all_sayable = flat_since (IsRangeOf W) (IsSayable W protocols) (λ source. with_destinations source axes) destinations_sayable axes.sources are.sources
+  all_sayable = flat_since (IsRange W) (IsSayable W protocols) (λ source. with_destinations source axes) destinations_sayable axes.sources are.sources
 
 -- ---- ports
-read_port : (r : Range) → IsRangeOf 16 r → (b : Bool) → (r.lo == r.hi) ≡ b → IsPortRange (if b then decimal r.lo else decimal r.lo ++ 58 ∷ decimal r.hi) r
+read_port : (r : Range) → IsRange 16 r → (b : Bool) → (r.lo == r.hi) ≡ b → IsPortRange (if b then decimal r.lo else decimal r.lo ++ 58 ∷ decimal r.hi) r
 read_port r is true e = (omega (arith, is.1), inl (refl, eqb-true r.lo r.hi e))
 read_port r is false e = (omega (arith, is.1), inr (refl, is.0))
 
@@ -82,7 +84,7 @@ module _ (protocols : Protocols) (has : HasOnePorts protocols) where
   list_readable : (lists : List (List Range)) → AllByRecursion (λ chunk. IsPortList (port_list chunk) chunk) lists → AllByRecursion (IsReadable protocols) (map Ports.Listed lists)
   list_readable lists are = map_since (λ chunk. IsPortList (port_list chunk) chunk) (IsReadable protocols) Ports.Listed (λ chunk is. (is, has)) lists are
 
-  one_readable : (r : Range) → IsRangeOf 16 r → CoverPorts (r ∷ []) → (everything own : Bool)
+  one_readable : (r : Range) → IsRange 16 r → CoverPorts (r ∷ []) → (everything own : Bool)
       → AllByRecursion (IsReadable protocols) (if everything then Ports.Every ∷ [] else if own then Ports.Single r ∷ [] else Ports.Listed (r ∷ []) ∷ [])
   one_readable r is cover true own = (tt, tt)
   one_readable r is cover false true = (read_port r is (r.lo == r.hi) refl, tt)
@@ -127,7 +129,7 @@ cubes_step : (count : ℕ) (b : Bool) (even odd : List FlagCube) → AllByRecurs
     → AllByRecursion (IsWithin (suc count)) (if b then map (beside 0 0) even else map (beside 1 0) even ++ map (beside 1 1) odd)
 cubes_step count true even odd p q = beside_within count 0 0 (lit< tt) (lit< tt) even p
 cubes_step count false even odd p q =
-    all_joined (IsWithin (suc count)) (map (beside 1 0) even) (map (beside 1 1) odd) (beside_within count 1 0 (lit< tt) (lit< tt) even p) (beside_within count 1 1 (lit< tt) (lit< tt) odd q)
+    each_append (IsWithin (suc count)) (map (beside 1 0) even) (map (beside 1 1) odd) (beside_within count 1 0 (lit< tt) (lit< tt) even p) (beside_within count 1 1 (lit< tt) (lit< tt) odd q)
 
 cubes_within : (count : ℕ) (has : ℕ → Bool) → AllByRecursion (IsWithin count) (flag_cubes count has)
 unfolding flag_cubes

@@ -19,7 +19,8 @@ use Rattle.name_set.specs.declared.pattern.Pattern.{Pattern}
 use Rattle.printed_filter.specs.Literals.{line_literals}
 use Rattle.printed_filter.specs.PrintedDump.{Helper, Said, action_to, asked_rules, back_where, helper_chains_from, helper_of, helper_rules, helpers_of, placed_from, verdict_action}
 use Rattle.printed_text.proofs.Blocks.{Block, RuleText, all_words, chain_line, chains_from, said_of, words_of}
-use Rattle.printed_text.proofs.ListLemmas.{flat_same, map_flat, map_map}
+use Rattle.basics.proofs.Lists.{map_map}
+use Rattle.printed_text.proofs.ListLemmas.{flat_same, map_flat}
 
 module _ {W : ℕ} where
   -- ---- the lines of a helper chain

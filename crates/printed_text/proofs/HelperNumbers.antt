@@ -9,7 +9,8 @@ use Rattle.dump_print.specs.Helpers.{HelpedRule, helped_from, helper_name, needs
 use Rattle.printed_text.proofs.Blocks.{AreApart, Block, block_names}
 use Rattle.printed_text.proofs.ChainLemmas.{helper_once}
 use Rattle.printed_text.proofs.HelperLemmas.{helper_block, helper_blocks}
-use Rattle.printed_text.proofs.ListLemmas.{all_joined, all_since, bytes_differ, bytes_same}
+use Rattle.basics.proofs.Lists.{each_append, each_weaker}
+use Rattle.printed_text.proofs.ListLemmas.{bytes_differ, bytes_same}
 
 -- the number is from the first on and below the end
 abbrev pub IsNumberIn : ℕ → ℕ → Option ℕ → Type 0
@@ -62,11 +63,11 @@ module _ {W : ℕ} where
       let P = λ (h : HelpedRule W). IsNumberIn next (next + length (rule ∷ rules)) h.helper in
       either_way (AllByRecursion P) (needs_helper rule.cube) (with_helper next rule ∷ helped_from (next + 1) rules) (without_helper rule ∷ helped_from next rules) (
         (omega arith, omega arith),
-        all_since (λ (h : HelpedRule W). IsNumberIn (next + 1) (next + 1 + length rules) h.helper) P
+        each_weaker (λ (h : HelpedRule W). IsNumberIn (next + 1) (next + 1 + length rules) h.helper) P
             (wider next (next + 1) (next + length (rule ∷ rules)) (next + 1 + length rules) (omega arith) (omega arith)) (helped_from (next + 1) rules) (numbers_in (next + 1) rules),
       ) (
         tt,
-        all_since (λ (h : HelpedRule W). IsNumberIn next (next + length rules) h.helper) P
+        each_weaker (λ (h : HelpedRule W). IsNumberIn next (next + length rules) h.helper) P
             (wider next next (next + length (rule ∷ rules)) (next + length rules) (omega arith) (omega arith)) (helped_from next rules) (numbers_in next rules),
       )
 
@@ -85,7 +86,7 @@ module _ {W : ℕ} where
       → AllByRecursion (IsHelperBlock first end) (helper_blocks rules)
   blocks_in first end [] is = tt
   blocks_in first end (h ∷ rules) is =
-      all_joined (IsHelperBlock first end) (helper_block h.rule h.helper) (helper_blocks rules) (one_block first end h.rule h.helper is.0) (blocks_in first end rules is.1)
+      each_append (IsHelperBlock first end) (helper_block h.rule h.helper) (helper_blocks rules) (one_block first end h.rule h.helper is.0) (blocks_in first end rules is.1)
 
   other_name : (next end : ℕ) → end ≤ 2 ^ 64 → next < end → (b : Block W) → IsHelperBlock (next + 1) end b → b.name ≢ helper_name next
   other_name next end small in_it b is e =
@@ -97,7 +98,7 @@ module _ {W : ℕ} where
   helpers_apart next (rule ∷ rules) small =
       let end = next + 1 + length rules in
       either_way (λ (l : List (HelpedRule W)). AreApart (helper_blocks l)) (needs_helper rule.cube) (with_helper next rule ∷ helped_from (next + 1) rules) (without_helper rule ∷ helped_from next rules) (
-        all_since (IsHelperBlock (next + 1) end) (λ (b : Block W). b.name ≢ helper_name next) (other_name next end (omega arith) (omega arith))
+        each_weaker (IsHelperBlock (next + 1) end) (λ (b : Block W). b.name ≢ helper_name next) (other_name next end (omega arith) (omega arith))
             (helper_blocks (helped_from (next + 1) rules)) (blocks_in (next + 1) end (helped_from (next + 1) rules) (numbers_in (next + 1) rules)),
         helpers_apart (next + 1) rules (omega arith),
       )

@@ -1,18 +1,20 @@
 -- Parts of a rule line: words that are groups, and the literals that these give.
-use Rattle.std.proofs.Common.{◌≡◌, ◌∙◌, ◌++◌, ◌∷◌, [], ℕ, List, Bool, true, false, ◌||◌, Option, Some, length, refl, sym, ap, subst, append_assoc, if◌then◌else◌}
-use Rattle.std.specs.List.{AllByRecursion}
+use Rattle.std.proofs.Common.{◌≡◌, ◌∙◌, ◌++◌, ◌∷◌, [], ℕ, List, Bool, true, false, ◌&&◌, ◌||◌, Option, Some, length, refl, sym, ap, subst, append_assoc, if◌then◌else◌}
+use Rattle.std.specs.List.{AllByRecursion, find}
+use Rattle.std.specs.Prelude.{option_map}
+use Rattle.std.specs.Str.{bytes_eq}
 use Rattle.match_expr.specs.declared.expr.Expr.{Expr}
 use Rattle.primitives.specs.declared.prim.Prim_.{Prim_}
 use Rattle.fw_rule.specs.declared.rule.Lit.{Lit}
-use Rattle.opt_table.specs.Options.{known_options}
+use Rattle.opt_table.specs.Options.{Spelling, known_options}
 use Rattle.dump_grammar.specs.Arguments.{Says}
 use Rattle.dump_grammar.specs.ChainLines.{is_among}
-use Rattle.dump_grammar.specs.Groups.{AreGroups, Base, Group, IsOptionName, Module, ModuleOption, Takes, arity_in, arity_in_rows, arity_of, base_of, base_options, is_known_module, mark_words}
+use Rattle.dump_grammar.specs.Groups.{AreGroups, Base, Group, IsOptionName, Module, ModuleOption, Takes, arity_in, arity_of, base_of, base_options, is_known_module, mark_words, row_of}
 use Rattle.dump_grammar.specs.Lines.{Text, Word, bare, texts}
 use Rattle.dump_grammar.specs.Literals.{AreLiterals, IsBaseLiteral, modules_literals, option_follows, text_of}
 use Rattle.dump_print.specs.Parts.{has_words, module_words}
 use Rattle.printed_text.proofs.WordLemmas.{CanStand, mark_is_written, module_mark_is_written}
-use Rattle.printed_text.proofs.ListLemmas.{all_joined}
+use Rattle.basics.proofs.Lists.{each_append}
 
 -- the options of two lists of groups
 pub base_joined : (a b : List Group) → base_of (a ++ b) ≡ base_of a ++ base_of b
@@ -42,8 +44,10 @@ mark_written true words p = (mark_is_written, p)
 mark_written false words p = p
 
 -- how many arguments an option takes, by its row in the table
-pub arity_is : (name option : Text) (count : ℕ) → arity_in_rows known_options name option ≡ Some count → arity_of name option ≡ Some count
-unfolding arity_of
+pub arity_is : (name option : Text) (count : ℕ)
+    → option_map (λ (row : Spelling). row.arity) (find (λ (row : Spelling). bytes_eq row.name name && bytes_eq row.option option) known_options) ≡ Some count
+    → arity_of name option ≡ Some count
+unfolding arity_of row_of
 arity_is name option count row = row
 
 taken_there : (name option : Text) (taken rest : List Word) → arity_of name option ≡ Some (length taken) → Takes (arity_in (Some name) option) taken rest
@@ -111,7 +115,7 @@ module _ {W : ℕ} (Reads : Text → ℕ → Type 0) (Knows : List Group → Typ
     gives = λ all knows more others are. join_literals all p.groups q.groups more l1 l2 others
         (p.gives all knows (q.groups ++ more) (l2 ++ others) (q.gives all knows more others are));
     based = base_joined p.groups q.groups ∙ ap (λ (os : List Text). os ++ base_of q.groups) p.based ∙ ap (λ (os : List Text). o1 ++ os) q.based;
-    written = all_joined CanStand w1 w2 p.written q.written;
+    written = each_append CanStand w1 w2 p.written q.written;
   }
 
   none_joined : (w1 w2 : List Word) (l1 l2 : List (Lit (Prim_ W))) → (has_words w1 ≡ false → l1 ≡ []) → (has_words w2 ≡ false → l2 ≡ [])
@@ -127,7 +131,7 @@ module _ {W : ℕ} (Reads : Text → ℕ → Type 0) (Knows : List Group → Typ
     gives = λ all knows more others are. join_literals all p.groups q.groups more l1 l2 others
         (p.gives all knows (q.groups ++ more) (l2 ++ others) (q.gives all knows more others are));
     based = base_joined p.groups q.groups ∙ ap (λ (os : List Text). os ++ base_of q.groups) p.based ∙ q.based;
-    written = all_joined CanStand w1 w2 p.written q.written;
+    written = each_append CanStand w1 w2 p.written q.written;
     none = none_joined w1 w2 l1 l2 p.none q.none;
   }
 

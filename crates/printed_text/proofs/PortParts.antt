@@ -8,22 +8,24 @@ use Rattle.match_expr.specs.declared.expr.Expr.TheVariants.{Prim}
 use Rattle.primitives.specs.declared.prim.Prim_.{Prim_}
 use Rattle.primitives.specs.Ports.{HasPorts}
 use Rattle.fw_rule.specs.declared.rule.Lit.{Lit}
-use Rattle.dump_grammar.specs.Arguments.{ArePortRanges, IsPortList, IsPortModule, IsPortRange, LineProtocol, Says, source_ports, destination_ports, source_port, destination_port, tcp_flags, source_port_list, destination_port_list, connection_state}
+use Rattle.primitives.specs.Tables.{name_list, state_names}
+use Rattle.primitives.specs.Words.{flags_text}
+use Rattle.opt_table.specs.Options.{destination_ports, source_ports}
+use Rattle.dump_grammar.specs.Arguments.{ArePortRanges, IsPortList, IsPortRange, LineProtocol, Says}
 use Rattle.dump_grammar.specs.Groups.{Group, IsOptionName, arity_of}
 use Rattle.dump_grammar.specs.Lines.{Text, bare}
+use Rattle.dump_grammar.proofs.SaidBy.{IsPortModule, connection_state, destination_port, destination_port_list, source_port, source_port_list, tcp_flags}
 use Rattle.dump_print.specs.declared.flags.FlagCube.{FlagCube}
 use Rattle.dump_print.specs.declared.protocols.Protocols.{Protocols}
-use Rattle.dump_print.specs.Flags.{flags_text}
 use Rattle.dump_print.specs.Parts.{Choice, flags_words, listed_words, module_words, option_words, own_module_words, own_words, single_words, state_words}
 use Rattle.dump_print.specs.Ports.{Ports, port_list, port_text}
 use Rattle.dump_print.specs.Protocols.{protocol_text}
-use Rattle.dump_print.specs.States.{states_text}
 use Rattle.printed_filter.specs.Literals.{flags_literals, listed_literals, number_of, own_literals, own_module_literals, single_literals, state_literals, yes}
 use Rattle.printed_text.proofs.WordLemmas.{CanStand, IsClean, clean_decimal, clean_is_written, code_is_written, some_decimal, some_joined}
 use Rattle.printed_text.proofs.WordListLemmas.{flags_spelled, flags_written, states_listed, states_written}
 use Rattle.printed_text.proofs.PartLemmas.{arity_is, IsInner, IsPart, join_inner, module_part, no_inner, no_part, option_part}
 use Rattle.printed_text.proofs.ProtocolParts.{Knowing, protocol_spells}
-use Rattle.printed_text.proofs.ListLemmas.{all_joined}
+use Rattle.basics.proofs.Lists.{each_append}
 
 -- ---- the words of ports
 -- ports are small numbers
@@ -45,7 +47,7 @@ wide n l = omega arith
 
 clean_port_by : (b : Bool) (r : Range) → IsSmall r → IsClean (if b then decimal r.lo else decimal r.lo ++ 58 ∷ decimal r.hi)
 clean_port_by true r is = clean_decimal r.lo (wide r.lo is.0)
-clean_port_by false r is = all_joined (λ b. 34 < b) (decimal r.lo) (58 ∷ decimal r.hi) (clean_decimal r.lo (wide r.lo is.0)) (lit< tt, clean_decimal r.hi (wide r.hi is.1))
+clean_port_by false r is = each_append (λ b. 34 < b) (decimal r.lo) (58 ∷ decimal r.hi) (clean_decimal r.lo (wide r.lo is.0)) (lit< tt, clean_decimal r.hi (wide r.hi is.1))
 
 clean_port : (r : Range) → IsSmall r → IsClean (port_text r)
 clean_port r is = clean_port_by (r.lo == r.hi) r is
@@ -59,7 +61,7 @@ some_port r is = some_port_by (r.lo == r.hi) r is
 
 clean_more : (rs : List Range) → AllByRecursion IsSmall rs → IsClean (flat_map (λ r. codes "," ++ port_text r) rs)
 clean_more [] are = tt
-clean_more (r ∷ rs) are = (lit< tt, all_joined (λ b. 34 < b) (port_text r) (flat_map (λ r. codes "," ++ port_text r) rs) (clean_port r are.0) (clean_more rs are.1))
+clean_more (r ∷ rs) are = (lit< tt, each_append (λ b. 34 < b) (port_text r) (flat_map (λ r. codes "," ++ port_text r) rs) (clean_port r are.0) (clean_more rs are.1))
 
 port_written : (r : Range) → IsPortRange (port_text r) r → CanStand (bare (port_text r))
 port_written r is = let small = small_range (port_text r) r is in clean_is_written (port_text r) (some_port r small) (clean_port r small)
@@ -69,7 +71,7 @@ ports_written [] is = absurd is.0
 ports_written (r ∷ rs) is =
     let small = small_ranges (slice_split (λ b. b == 44) (port_list (r ∷ rs))) (r ∷ rs) is.0 in
     clean_is_written (port_list (r ∷ rs)) (some_joined (port_text r) (flat_map (λ r. codes "," ++ port_text r) rs) (some_port r small.0))
-    (all_joined (λ b. 34 < b) (port_text r) (flat_map (λ r. codes "," ++ port_text r) rs) (clean_port r small.0) (clean_more rs small.1))
+    (each_append (λ b. 34 < b) (port_text r) (flat_map (λ r. codes "," ++ port_text r) rs) (clean_port r small.0) (clean_more rs small.1))
 
 -- ---- which ports, flags and states a line says
 -- the line says one protocol, and that has ports
@@ -121,12 +123,12 @@ module _ {W : ℕ} (Reads : Text → ℕ → Type 0) where
     source_port_part : (name : Text) (n : ℕ) → IsPortModule name n → arity_of name (codes "--sport") ≡ Some 1 → (protocols : Protocols) (ports : Ports) → IsReadable protocols ports
         → IsInner {W = W} Reads Knows name (single_words (codes "--sport") ports) (single_literals (source_ports n) ports)
     source_port_part name n of arity = single_part name (codes "--sport") (source_ports n) arity (refl, lit≤ tt)
-        (λ all text r is. source_port n text r of refl refl is refl) (code_is_written (codes "--sport") refl)
+        (λ all text r is. source_port Reads all false n text r of refl refl is refl) (code_is_written (codes "--sport") refl)
 
     destination_port_part : (name : Text) (n : ℕ) → IsPortModule name n → arity_of name (codes "--dport") ≡ Some 1 → (protocols : Protocols) (ports : Ports) → IsReadable protocols ports
         → IsInner {W = W} Reads Knows name (single_words (codes "--dport") ports) (single_literals (destination_ports n) ports)
     destination_port_part name n of arity = single_part name (codes "--dport") (destination_ports n) arity (refl, lit≤ tt)
-        (λ all text r is. destination_port n text r of refl refl is refl) (code_is_written (codes "--dport") refl)
+        (λ all text r is. destination_port Reads all false n text r of refl refl is refl) (code_is_written (codes "--dport") refl)
 
     flags_part_by : (cube : FlagCube) → cube.mask < 64 → cube.comp < 64 → (b : Bool)
         → IsInner {W = W} Reads Knows (codes "tcp") (if b then [] else bare (codes "--tcp-flags") ∷ bare (flags_text cube.mask) ∷ bare (flags_text cube.comp) ∷ [])
@@ -135,7 +137,7 @@ module _ {W : ℕ} (Reads : Text → ℕ → Type 0) where
     flags_part_by cube mask comp false =
         option_part Reads Knows (codes "tcp") (codes "--tcp-flags") (bare (flags_text cube.mask) ∷ bare (flags_text cube.comp) ∷ []) (Prim (Prim_.Flags cube.mask cube.comp))
         (arity_is (codes "tcp") (codes "--tcp-flags") 2 refl) (refl, lit≤ tt)
-        (λ all knows. tcp_flags (flags_text cube.mask) (flags_text cube.comp) cube.mask cube.comp refl refl refl (flags_spelled cube.mask mask) (flags_spelled cube.comp comp) refl)
+        (λ all knows. tcp_flags Reads all false (flags_text cube.mask) (flags_text cube.comp) cube.mask cube.comp refl refl refl (flags_spelled cube.mask mask) (flags_spelled cube.comp comp) refl)
         (code_is_written (codes "--tcp-flags") refl) (flags_written cube.mask mask, (flags_written cube.comp comp, tt))
 
     flags_part : (cube : FlagCube) → cube.mask < 64 → cube.comp < 64 → IsInner {W = W} Reads Knows (codes "tcp") (flags_words cube) (flags_literals cube)
@@ -204,22 +206,22 @@ module _ {W : ℕ} (Reads : Text → ℕ → Type 0) where
   pub source_list_part : (protocols : Protocols) (ports : Ports) → IsReadable protocols ports
       → IsPart {W = W} Reads (Knowing protocols) [] (listed_words (codes "--sports") ports) (listed_literals (source_ports (number_of protocols)) ports)
   source_list_part = listed_part (codes "--sports") source_ports (arity_is (codes "multiport") (codes "--sports") 1 refl) (refl, lit≤ tt)
-      (λ all n text rs line is. source_port_list n text rs refl refl refl line is refl) (code_is_written (codes "--sports") refl)
+      (λ all n text rs line is. source_port_list Reads all false n text rs refl refl refl line is refl) (code_is_written (codes "--sports") refl)
 
   pub destination_list_part : (protocols : Protocols) (ports : Ports) → IsReadable protocols ports
       → IsPart {W = W} Reads (Knowing protocols) [] (listed_words (codes "--dports") ports) (listed_literals (destination_ports (number_of protocols)) ports)
   destination_list_part = listed_part (codes "--dports") destination_ports (arity_is (codes "multiport") (codes "--dports") 1 refl) (refl, lit≤ tt)
-      (λ all n text rs line is. destination_port_list n text rs refl refl refl line is refl) (code_is_written (codes "--dports") refl)
+      (λ all n text rs line is. destination_port_list Reads all false n text rs refl refl refl line is refl) (code_is_written (codes "--dports") refl)
 
   -- ---- states
   state_part_by : (Knows : List Group → Type 0) (states : ℕ) → 1 ≤ states → states < 32 → (b : Bool)
-      → IsPart {W = W} Reads Knows [] (if b then [] else module_words (codes "conntrack") (option_words (codes "--ctstate") (bare (states_text states))))
+      → IsPart {W = W} Reads Knows [] (if b then [] else module_words (codes "conntrack") (option_words (codes "--ctstate") (bare (name_list state_names states))))
       (if b then [] else yes (Prim_.State states) ∷ [])
   state_part_by Knows states some small true = no_part Reads Knows
   state_part_by Knows states some small false =
-      module_part Reads Knows (codes "conntrack") (option_words (codes "--ctstate") (bare (states_text states))) (yes (Prim_.State states) ∷ []) refl (code_is_written (codes "conntrack") refl)
-      (option_part Reads Knows (codes "conntrack") (codes "--ctstate") (bare (states_text states) ∷ []) (Prim (Prim_.State states)) (arity_is (codes "conntrack") (codes "--ctstate") 1 refl) (refl, lit≤ tt)
-      (λ all knows. connection_state (states_text states) states refl refl refl (states_listed states some small) refl) (code_is_written (codes "--ctstate") refl)
+      module_part Reads Knows (codes "conntrack") (option_words (codes "--ctstate") (bare (name_list state_names states))) (yes (Prim_.State states) ∷ []) refl (code_is_written (codes "conntrack") refl)
+      (option_part Reads Knows (codes "conntrack") (codes "--ctstate") (bare (name_list state_names states) ∷ []) (Prim (Prim_.State states)) (arity_is (codes "conntrack") (codes "--ctstate") 1 refl) (refl, lit≤ tt)
+      (λ all knows. connection_state Reads all false (name_list state_names states) states refl refl refl (states_listed states some small) refl) (code_is_written (codes "--ctstate") refl)
       (states_written states some small, tt))
 
   pub state_part : (Knows : List Group → Type 0) (states : ℕ) → 1 ≤ states → states < 32 → IsPart {W = W} Reads Knows [] (state_words states) (state_literals states)

@@ -27,7 +27,7 @@ use Rattle.dump_print.specs.Parts.{option_words, rule_words}
 use Rattle.dump_print.specs.PortCover.{CoverPorts}
 use Rattle.dump_print.specs.Printed.{all_lines, chain_words, printed, target_text}
 use Rattle.dump_print.specs.Protocols.{protocol_text}
-use Rattle.dump_print.specs.Sets.{HasSets}
+use Rattle.box_norm.specs.Sets.{HasSets}
 use Rattle.dump_print.specs.Spelling.{lines_text}
 use Rattle.dump_print.specs.Written.{KeepsWords}
 use Rattle.printed_filter.specs.Laws.{ArePrintable}
@@ -37,7 +37,8 @@ use Rattle.printed_text.proofs.Blocks.{Block, HasGoodRules, IsGoodChain, IsGoodR
 use Rattle.printed_text.proofs.ChainLemmas.{asked_by, asked_declared, asked_no_helper, asked_clean, chain_printed, helper_allowed, helper_declared, helper_no_asked, helper_clean}
 use Rattle.printed_text.proofs.HelperLemmas.{asked_block, asked_line, asked_lines, asked_said, asked_words, helper_block, helper_blocks, helper_texts, helpers_chains, helpers_declared, helpers_length, helpers_words, in_text, out_text, protocol_line, return_text, return_texts, verdict_line}
 use Rattle.printed_text.proofs.HelperNumbers.{IsFoundAt, IsHelperBlock, IsNumberIn, all_helped, blocks_in, helpers_apart, helpers_found, numbers_in}
-use Rattle.printed_text.proofs.ListLemmas.{all_contained, all_joined, all_map, all_since, flat_since, map_since}
+use Rattle.basics.proofs.Lists.{each_append, each_contained, each_map, each_weaker}
+use Rattle.printed_text.proofs.ListLemmas.{flat_since, map_since}
 use Rattle.printed_text.proofs.NumberLemmas.{IsNumber}
 use Rattle.printed_text.proofs.ReturnLemmas.{returned_numbers, returned_printable}
 use Rattle.printed_text.proofs.RuleLines.{IsReturn, asked_line_is_rule, asked_line_is_written, input_return, output_return, protocol_return, return_line_is_rule, return_line_is_written, verdict_is_written, verdict_line_is_rule, verdict_line_is_written}
@@ -133,10 +134,10 @@ module _ (W : ℕ) (Reads : Text → ℕ → Type 0) (keeps : KeepsWords) (names
   returns_good : (chain : Text) (cube : Cube W) → IsFine cube → CanStand (bare chain) → AllByRecursion (IsGoodRule Reads names chain) (return_texts chain cube)
   returns_good chain cube fine stands =
       let Good = IsGoodRule {W = W} Reads names chain in
-      all_joined Good (map (in_text chain) (returned_patterns cube.in_name)) (map (out_text chain) (returned_patterns cube.out_name) ++ map (protocol_line chain) (returned_protocols cube.proto))
+      each_append Good (map (in_text chain) (returned_patterns cube.in_name)) (map (out_text chain) (returned_patterns cube.out_name) ++ map (protocol_line chain) (returned_protocols cube.proto))
       (map_since IsPrintable Good (in_text chain) (λ p is. return_good chain (codes "-i") (name_word p) (Prim_.InName p) stands (input_return W Reads p is))
       (returned_patterns cube.in_name) (returned_printable cube.in_name fine.names.in_name))
-      (all_joined Good (map (out_text chain) (returned_patterns cube.out_name)) (map (protocol_line chain) (returned_protocols cube.proto))
+      (each_append Good (map (out_text chain) (returned_patterns cube.out_name)) (map (protocol_line chain) (returned_protocols cube.proto))
       (map_since IsPrintable Good (out_text chain) (λ p is. return_good chain (codes "-o") (name_word p) (Prim_.OutName p) stands (output_return W Reads p is))
       (returned_patterns cube.out_name) (returned_printable cube.out_name fine.names.out_name))
       (map_since IsNumber Good (protocol_line chain) (λ n is. return_good chain (codes "-p") (bare (protocol_text n)) (Prim_.Proto n) stands (protocol_return W Reads n is))
@@ -144,7 +145,7 @@ module _ (W : ℕ) (Reads : Text → ℕ → Type 0) (keeps : KeepsWords) (names
 
   helper_good : (chain : Text) (rule : SimpleRule W) → IsFine rule.cube → CanStand (bare chain) → AllByRecursion (IsGoodRule Reads names chain) (helper_texts chain rule)
   helper_good chain rule fine stands =
-      all_joined (IsGoodRule Reads names chain) (return_texts chain rule.cube) (verdict_line chain rule.accept ∷ [])
+      each_append (IsGoodRule Reads names chain) (return_texts chain rule.cube) (verdict_line chain rule.accept ∷ [])
       (returns_good chain rule.cube fine stands) (verdict_good chain rule.accept stands, tt)
 
   block_good : (rule : SimpleRule W) (helper : Option ℕ) → IsFine rule.cube → IsSmall helper → AllByRecursion (HasGoodRules Reads names) (helper_block rule helper)
@@ -168,8 +169,8 @@ module _ (Reads : Text → ℕ → Type 0) (text_of : ℕ → Text) (W : ℕ)
       let target = target_text helped.rule.accept helped.helper in
       let fine = ready.fine in
       let Good = IsGoodRule {W = W} Reads (chain ∷ names) chain in
-      all_map Good (asked_line text_of chain helped) (choices_of cube)
-      (all_contained (λ line. Good (asked_line text_of chain helped line)) (choices_of cube) (λ line there. record {
+      each_map Good (asked_line text_of chain helped) (choices_of cube)
+      (each_contained (λ line. Good (asked_line text_of chain helped line)) (choices_of cube) (λ line there. record {
         printed = rule_printed keeps chain (part_words text_of W cube line) target
             (asked_line_is_written Reads text_of W fine.sets.source.0 round plain kept chain cube line target fine.sets fine.regular fine.states fine.names there
             (asked_stands chain asked) (target_stands helped.rule.accept helped.helper ready.small));
@@ -196,7 +197,7 @@ module _ (Reads : Text → ℕ → Type 0) (text_of : ℕ → Text) (W : ℕ)
     ready = ready_all helper_names (1 + length rules) few helped (all_helped (λ (rule : SimpleRule W). IsFine rule.cube) 1 rules fine) (numbers_in 1 rules) (helpers_found 1 rules few)
 
     other_names : AllByRecursion (λ (b : Block W). b.name ≢ chain) (helper_blocks helped)
-    other_names = all_since (IsHelperBlock 1 (1 + length rules)) (λ (b : Block W). b.name ≢ chain)
+    other_names = each_weaker (IsHelperBlock 1 (1 + length rules)) (λ (b : Block W). b.name ≢ chain)
         (λ b is e. helper_no_asked is.number chain asked (sym is.name ∙ e)) (helper_blocks helped) (blocks_in 1 (1 + length rules) helped (numbers_in 1 rules))
 
     blocks_good : AreGood Reads (blocks_of chain policy helped)

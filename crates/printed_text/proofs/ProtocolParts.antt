@@ -8,7 +8,8 @@ use Rattle.interval_set.specs.Numbers.{IsSet, has}
 use Rattle.interval_set.specs.Spelling.{set_not}
 use Rattle.match_expr.specs.declared.expr.Expr.TheVariants.{Prim}
 use Rattle.primitives.specs.declared.prim.Prim_.{Prim_}
-use Rattle.primitives.specs.Words.{Named, SpellsProto, number_in, proto_names}
+use Rattle.primitives.specs.Tables.{Named, name_of, number_in, proto_names}
+use Rattle.primitives.specs.Words.{SpellsProto}
 use Rattle.fw_rule.specs.declared.rule.Lit.{Lit}
 use Rattle.box_norm.specs.Pieces.{single}
 use Rattle.dump_grammar.specs.Groups.{Base, Group}
@@ -17,7 +18,7 @@ use Rattle.dump_grammar.specs.Literals.{IsBaseLiteral}
 use Rattle.dump_print.specs.declared.protocols.Protocols.{Protocols}
 use Rattle.dump_print.specs.Addresses.{is_everything}
 use Rattle.dump_print.specs.Parts.{option_words, protocol_words}
-use Rattle.dump_print.specs.Protocols.{name_of, protocol_text, protocols_of, protocols_without}
+use Rattle.dump_print.specs.Protocols.{protocol_text, protocols_of, protocols_without}
 use Rattle.printed_filter.specs.Literals.{no, protocol_literals, yes}
 use Rattle.printed_text.proofs.NumberLemmas.{IsNumber, lacked_number}
 use Rattle.printed_text.proofs.WordLemmas.{CanStand, clean_decimal, clean_is_written, code_is_written, is_clean, some_decimal}
@@ -29,6 +30,7 @@ abbrev AreNames : List Named → Type 0
 AreNames words = AllByRecursion (λ (word : Named). (number_in proto_names word.name ≡ Some word.number) × (is_clean word.name ≡ true)) words
 
 are_names : AreNames proto_names
+unfolding proto_names
 are_names = (
   (refl, refl),
   (

@@ -15,7 +15,8 @@ use Rattle.dump_print.specs.Helpers.{returned_patterns, returned_protocols}
 use Rattle.dump_print.specs.Names.{is_plain_names}
 use Rattle.dump_print.specs.Protocols.{is_plain_protocols, lacking, numbers_from, numbers_of, protocols_of}
 use Rattle.printed_text.specs.Names.{ArePrintableNames}
-use Rattle.printed_text.proofs.ListLemmas.{all_since, flat_since}
+use Rattle.basics.proofs.Lists.{each_weaker}
+use Rattle.printed_text.proofs.ListLemmas.{flat_since}
 use Rattle.printed_text.proofs.NumberLemmas.{IsNumber, lacked_number}
 use Rattle.printed_text.proofs.ProtocolParts.{single_only}
 
@@ -38,7 +39,7 @@ each_has : (rs : List Range) → AllByRecursion (λ (r : Range). (n : ℕ) → r
 each_has [] = tt
 each_has (r ∷ rs) = (
   within_has r rs,
-  all_since (λ (s : Range). (n : ℕ) → s.lo ≤ n → n ≤ s.hi → has rs n ≡ true) (λ (s : Range). (n : ℕ) → s.lo ≤ n → n ≤ s.hi → has (r ∷ rs) n ≡ true)
+  each_weaker (λ (s : Range). (n : ℕ) → s.lo ≤ n → n ≤ s.hi → has rs n ≡ true) (λ (s : Range). (n : ℕ) → s.lo ≤ n → n ≤ s.hi → has (r ∷ rs) n ≡ true)
       (λ s f n low high. or_right (is_within r n) (has rs n) (f n low high)) rs (each_has rs),
 )
 
@@ -48,7 +49,7 @@ numbers_has rs =
     (λ r f. all_from (λ n. has rs n ≡ true) r.lo (r.hi + 1 - r.lo) (λ n low high. f n low (omega arith))) rs (each_has rs)
 
 lacking_numbers : (rs : List Range) → has rs 0 ≡ true → AllByRecursion IsNumber (lacking rs)
-lacking_numbers rs zeroed = all_since (λ n. has (set_not 8 rs) n ≡ true) IsNumber (λ n lacked. lacked_number rs n zeroed lacked) (lacking rs) (numbers_has (set_not 8 rs))
+lacking_numbers rs zeroed = each_weaker (λ n. has (set_not 8 rs) n ≡ true) IsNumber (λ n lacked. lacked_number rs n zeroed lacked) (lacking rs) (numbers_has (set_not 8 rs))
 
 none_if_plain : (rs : List Range) (b : Bool) → b ≡ true → AllByRecursion IsNumber (if b then [] else lacking rs)
 none_if_plain rs true e = tt

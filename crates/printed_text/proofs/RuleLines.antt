@@ -13,7 +13,7 @@ use Rattle.fw_rule.specs.declared.rule.Lit.{Lit}
 use Rattle.box_norm.specs.declared.cube.Cube.{Cube}
 use Rattle.box_norm.specs.Regular.{HasStates, IsRegular}
 use Rattle.box_norm.specs.Cubes.{has_no_name, has_no_range, is_none}
-use Rattle.dump_grammar.specs.Arguments.{destination_ports, source_ports}
+use Rattle.opt_table.specs.Options.{destination_ports, source_ports}
 use Rattle.dump_grammar.specs.Groups.{AreGroups, Base, Group, all_differ}
 use Rattle.dump_grammar.specs.Lines.{Text, Word, bare}
 use Rattle.dump_grammar.specs.Literals.{AreLiterals}
@@ -27,7 +27,7 @@ use Rattle.dump_print.specs.Names.{name_word}
 use Rattle.dump_print.specs.Parts.{Choice, iprange_words, listed_words, option_words, own_module_words, own_words, rule_words, state_words}
 use Rattle.dump_print.specs.PortCover.{CoverPorts}
 use Rattle.dump_print.specs.Protocols.{protocol_text, protocols_of}
-use Rattle.dump_print.specs.Sets.{HasSets}
+use Rattle.box_norm.specs.Sets.{HasSets}
 use Rattle.printed_filter.specs.Literals.{base_literals, line_literals, listed_literals, module_literals, number_of, own_module_literals, range_literals, state_literals, yes}
 use Rattle.printed_filter.specs.PrintedDump.{verdict_action}
 use Rattle.printed_text.specs.Names.{HasPrintableNames}
@@ -39,7 +39,7 @@ use Rattle.printed_text.proofs.PartLemmas.{IsPart, chosen, join_parts, no_part}
 use Rattle.printed_text.proofs.PortParts.{destination_list_part, own_part, source_list_part, state_part}
 use Rattle.printed_text.proofs.ProtocolParts.{Knowing, is_sayable, protocol_part, protocols_part}
 use Rattle.printed_text.proofs.WordLemmas.{CanStand, code_is_written}
-use Rattle.printed_text.proofs.ListLemmas.{all_joined}
+use Rattle.basics.proofs.Lists.{each_append}
 use Rattle.printed_text.proofs.WordListLemmas.{some_from}
 
 -- ---- no option stands twice
@@ -95,7 +95,7 @@ target_written target written = (code_is_written (codes "-j") refl, (written, tt
 line_written : (chain target : Text) (words : List Word) → CanStand (bare chain) → AllByRecursion CanStand words → CanStand (bare target)
     → AllByRecursion CanStand (rule_words chain words target)
 line_written chain target words named parts written =
-    (code_is_written (codes "-A") refl, (named, all_joined CanStand words (option_words (codes "-j") (bare target)) parts (target_written target written)))
+    (code_is_written (codes "-A") refl, (named, each_append CanStand words (option_words (codes "-j") (bare target)) parts (target_written target written)))
 
 -- nothing needs to be known
 abbrev Nothing : List Group → Type 0

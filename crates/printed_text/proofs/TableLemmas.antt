@@ -1,5 +1,5 @@
 -- The table of printed chains, and the dump that its text is.
-use Rattle.std.proofs.Common.{◌≡◌, ◌≢◌, ◌∙◌, ◌++◌, ◌+◌, not, ℕ, List, [], ◌∷◌, true, false, map, length, refl, ap, sym, append-nil, inl, codes}
+use Rattle.std.proofs.Common.{◌≡◌, ◌≢◌, ◌∙◌, ◌++◌, ◌+◌, ◌<◌, not, ℕ, List, [], ◌∷◌, true, false, map, length, refl, ap, sym, append-nil, inl, codes, arith}
 use Rattle.std.specs.List.{AllByRecursion}
 use Rattle.std.specs.Str.{bytes_eq}
 use Rattle.std.proofs.lemmas.Bool.{and_from, not_from_false, or_from}
@@ -8,11 +8,12 @@ use Rattle.dump_grammar.specs.ChainLines.{is_among}
 use Rattle.dump_grammar.specs.Groups.{all_differ}
 use Rattle.dump_grammar.specs.Lines.{Numbered, Text, Word, bare, numbered_from}
 use Rattle.dump_grammar.specs.Reads.{IsDump}
-use Rattle.dump_grammar.specs.Tables.{AreTables, DumpTable, IsFilter, IsFilterBody, IsTable, lines_of}
+use Rattle.dump_grammar.specs.Tables.{AreTables, DumpTable, IsFilterBody, IsTable, lines_of}
 use Rattle.dump_print.specs.Spelling.{lines_text}
 use Rattle.dump_print.specs.Written.{KeepsWords}
 use Rattle.printed_text.proofs.Blocks.{AreApart, Block, HasGoodRules, IsGoodChain, all_places, all_printed, all_spelled, all_words, block_names, chain_line, chains_declared, chains_from, chains_printed, declared_of, dump_is, rules_declared}
-use Rattle.printed_text.proofs.ListLemmas.{all_joined, bytes_differ, first_one}
+use Rattle.basics.proofs.Lists.{each_append, in_bounds}
+use Rattle.printed_text.proofs.ListLemmas.{bytes_differ, first_one}
 use Rattle.printed_text.proofs.WordLemmas.{code_is_written}
 use Rattle.printed_text.proofs.TextLines.{IsPrinted, is_printed, line_of, lines_of_text, none_passed, numbered_joined}
 
@@ -28,13 +29,6 @@ opener_printed keeps = is_printed keeps (bare (codes "*filter")) [] (code_is_wri
 
 closer_printed : KeepsWords → IsPrinted closer
 closer_printed keeps = is_printed keeps (bare (codes "COMMIT")) [] (code_is_written (codes "COMMIT") refl, tt) refl
-
--- a list of one table
-one_before : (t v : DumpTable) (before after : List DumpTable) → t ∷ [] ≡ before ++ v ∷ after → AllByRecursion (λ u. IsFilter u → ⊥) (before ++ after)
-one_before t v [] [] e = tt
-one_before t v [] (a ∷ after) e = absurd (cc)
-one_before t v (b ∷ []) after e = absurd (cc)
-one_before t v (b ∷ c ∷ before) after e = absurd (cc)
 
 module _ {W : ℕ} where
   -- the lines between the first and the last
@@ -105,8 +99,8 @@ module _ {W : ℕ} (Reads : Text → ℕ → Type 0) where
   lines_printed : KeepsWords → (blocks : List (Block W)) → AreGood blocks → AllByRecursion IsPrinted (table_lines blocks)
   lines_printed keeps blocks good = (
     opener_printed keeps,
-    all_joined IsPrinted (body_lines blocks) (closer ∷ [])
-        (all_joined IsPrinted (map chain_line blocks) (all_words blocks) (chains_printed blocks good.chains) (all_printed Reads (block_names blocks) blocks good.rules))
+    each_append IsPrinted (body_lines blocks) (closer ∷ [])
+        (each_append IsPrinted (map chain_line blocks) (all_words blocks) (chains_printed blocks good.chains) (all_printed Reads (block_names blocks) blocks good.rules))
         (closer_printed keeps, tt),
   )
 
@@ -114,7 +108,10 @@ module _ {W : ℕ} (Reads : Text → ℕ → Type 0) where
   tables_are keeps blocks good = record {
     whole = none_passed 1 (table_lines blocks) (lines_printed keeps blocks good) ∙ table_numbered blocks ∙ sym (append-nil (lines_of (table_of blocks)));
     each = (table_is keeps blocks good, tt);
-    one_filter = λ before after t e is. one_before (table_of blocks) t before after e;
+    one_filter = λ i j s u e d a b.
+        let m : i < 1 = in_bounds (table_of blocks ∷ []) i s e in
+        let n : j < 1 = in_bounds (table_of blocks ∷ []) j u d in
+        omega (arith, m, n);
   }
 
   -- the text of the table is the dump of its chains

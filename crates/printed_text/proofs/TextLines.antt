@@ -6,7 +6,8 @@ use Rattle.dump_grammar.specs.Lines.{AreLines, HasWords, IsLine, Numbered, Text,
 use Rattle.dump_print.specs.Spelling.{escaped, line_text, lines_text, spaced, spelled}
 use Rattle.dump_print.specs.Written.{IsWritten, KeepsWords}
 use Rattle.printed_text.proofs.WordLemmas.{CanStand}
-use Rattle.printed_text.proofs.ListLemmas.{all_joined, all_since, filter_in}
+use Rattle.basics.proofs.Lists.{each_append, each_weaker}
+use Rattle.printed_text.proofs.ListLemmas.{filter_in}
 
 -- a line without its line feed
 abbrev pub line_of : List Word → Text
@@ -55,19 +56,19 @@ escaped_line [] h = tt
 escaped_line (b ∷ bs) h = escape_one ((b == 34) || (b == 92)) b (escaped bs) h.0 (escaped_line bs h.1)
 
 quoted_line : (quoted : Bool) (text : Text) → IsLine text → IsLine (if quoted then 34 ∷ (escaped text ++ 34 ∷ []) else text)
-quoted_line true text h = (omega arith, all_joined _ (escaped text) (34 ∷ []) (escaped_line text h) (omega arith, tt))
+quoted_line true text h = (omega arith, each_append _ (escaped text) (34 ∷ []) (escaped_line text h) (omega arith, tt))
 quoted_line false text h = h
 
 spaced_line : (words : List Word) → AllByRecursion CanStand words → IsLine (spaced words)
 spaced_line [] stand = tt
 spaced_line (word ∷ words) stand =
-    (omega arith, all_joined _ (spelled word) (spaced words) (quoted_line word.quoted word.text stand.0.1) (spaced_line words stand.1))
+    (omega arith, each_append _ (spelled word) (spaced words) (quoted_line word.quoted word.text stand.0.1) (spaced_line words stand.1))
 
 -- words that can stand in a line, the first of which makes it no line that is passed over
 pub is_printed : KeepsWords → (word : Word) (words : List Word) → AllByRecursion CanStand (word ∷ words)
     → is_passed_over (spelled word ++ spaced words) ≡ false → IsPrinted (word ∷ words)
 is_printed keeps word words stand shown = record {
-  line = all_joined _ (spelled word) (spaced words) (quoted_line word.quoted word.text stand.0.1) (spaced_line words stand.1);
+  line = each_append _ (spelled word) (spaced words) (quoted_line word.quoted word.text stand.0.1) (spaced_line words stand.1);
   shown = shown;
-  kept = keeps word words stand.0.0 (all_since CanStand IsWritten (λ w s. s.0) words stand.1);
+  kept = keeps word words stand.0.0 (each_weaker CanStand IsWritten (λ w s. s.0) words stand.1);
 }

@@ -12,9 +12,10 @@ use Rattle.dump_token.specs.Words.{BeginsPlain, HoldsNoBlank, is_blank}
 use Rattle.name_set.specs.declared.pattern.Pattern.{Pattern}
 use Rattle.dump_grammar.specs.Lines.{IsLine, Text, Word, bare}
 use Rattle.dump_grammar.specs.Printable.{IsPrintable}
-use Rattle.dump_print.specs.Names.{begins_plainly, is_bare, is_plain_byte, name_word, pattern_name}
+use Rattle.primitives.specs.Bytes.{is_plain_byte}
+use Rattle.dump_print.specs.Names.{begins_plainly, is_bare, name_word, pattern_name}
 use Rattle.dump_print.specs.Written.{IsWritten}
-use Rattle.printed_text.proofs.ListLemmas.{all_joined}
+use Rattle.basics.proofs.Lists.{each_append}
 
 -- a word that stands in a line as it is meant, and has no line feed
 abbrev pub CanStand : Word → Type 0
@@ -108,7 +109,7 @@ some_begun (b ∷ text) e = omega arith
 
 pattern_line : (pattern : Pattern) → IsPrintable pattern → IsLine (pattern_name pattern)
 pattern_line (Pattern.Exact name) is = is.3
-pattern_line (Pattern.Prefix front) is = all_joined (λ b. b ≢ 10) front (codes "+") is.1 (omega arith, tt)
+pattern_line (Pattern.Prefix front) is = each_append (λ b. b ≢ 10) front (codes "+") is.1 (omega arith, tt)
 
 name_written : (b : Bool) (text : Text) → is_bare text ≡ b → IsLine text → CanStand (record { text = text; quoted = not b })
 name_written false text e line = (inl refl, line)

@@ -6,7 +6,8 @@ use Rattle.fw_rule.specs.declared.rule.Action.{Action}
 use Rattle.fw_rule.specs.declared.rule.Rule.{Rule}
 use Rattle.fw_rule.specs.declared.rule.Chain.{Chain}
 use Rattle.fw_rule.specs.declared.rule.Dump.{Dump}
-use Rattle.fw_rule.specs.Walk.{RuleOf, Calls, Reaches, Here, Over, Settled, Within, deep}
+use Rattle.fw_rule.specs.Walk.{target_of, RuleOf, Calls, Reaches, Here, Over, Settled, Within, deep}
+use Rattle.fw_rule.proofs.Ends.{policy_is}
 use Rattle.fw_rule.proofs.Loops.{no_round}
 use Rattle.fw_rule.proofs.Turns.{read_at, chain_is}
 use Rattle.reckoner.specs.Sound.{IsSound, sound}
@@ -15,6 +16,18 @@ use Rattle.reckoner.specs.Sound.{IsSound, sound}
 has_policy : (o : Option Verdict) → is_some o ≡ true → (v : Verdict) × (o ≡ Some v)
 has_policy None e = absurd (true≢false (sym e))
 has_policy (Some v) e = (v, refl)
+
+one_target : (a b : ℕ) → Some a ≡ Some b → a ≡ b
+one_target a b e = cc
+
+-- an action that leads to a chain calls it
+is_call : (action : Action) (k : ℕ) → target_of action ≡ Some k → action ≡ Action.Call k
+is_call Action.Accept k e = cc
+is_call Action.Drop k e = cc
+is_call Action.Pass k e = cc
+is_call Action.Back k e = cc
+is_call (Action.Call j) k e = cc
+is_call (Action.Other name) k e = cc
 
 module _ {P : Type 0} (dump : Dump P) where
   pub sound_within : (d c : ℕ) → IsSound dump d c → Within dump d c
@@ -36,7 +49,7 @@ module _ {P : Type 0} (dump : Dump P) where
 
   pub sound_settled : (d c : ℕ) (here : Chain P) (v : Verdict) → slice_get dump.chains c ≡ Some here → here.policy ≡ Some v → IsSound dump d c → Settled dump c
   sound_settled d c here v at has s = record {
-    policy = (here, v, at, has);
+    policy = (v, policy_is dump c here at ∙ has);
     named = λ a b r q. let t = reached_sound d c a s r in names t.0 a b t.1 q;
     known_targets = λ a rule name r there is. let t = reached_sound d c a s r in targets t.0 a rule name t.1 there is;
     no_loop = λ a b r q back. no_round dump d c a b (sound_within d c s) r q back;
@@ -44,21 +57,21 @@ module _ {P : Type 0} (dump : Dump P) where
 
   -- what a rule keeps to in a sound chain
   pub record Passes (d : ℕ) (rule : Rule P) : Type 0 where
-    pub named : (k : ℕ) → rule.action ≡ Action.Call k → k < length dump.chains
-    pub below : (k : ℕ) → rule.action ≡ Action.Call k → IsSound dump d k
+    pub named : (k : ℕ) → target_of rule.action ≡ Some k → k < length dump.chains
+    pub below : (k : ℕ) → target_of rule.action ≡ Some k → IsSound dump d k
     pub known : (name : List ℕ) → rule.action ≡ Action.Other name → ⊥
 
   pub passes_call : (d : ℕ) (rule : Rule P) (callee : ℕ) → rule.action ≡ Action.Call callee → callee < length dump.chains → IsSound dump d callee → Passes d rule
   passes_call d rule callee is there s = record {
-    named = λ k q. let e : callee ≡ k = cc in subst (λ (z : ℕ). z < length dump.chains) e there;
-    below = λ k q. let e : callee ≡ k = cc in subst (λ (z : ℕ). IsSound dump d z) e s;
+    named = λ k q. subst (λ (z : ℕ). z < length dump.chains) (one_target callee k (sym (ap target_of is) ∙ q)) there;
+    below = λ k q. subst (λ (z : ℕ). IsSound dump d z) (one_target callee k (sym (ap target_of is) ∙ q)) s;
     known = λ name q. cc;
   }
 
   pub passes_other : (d : ℕ) (rule : Rule P) → ((k : ℕ) → rule.action ≡ Action.Call k → ⊥) → ((name : List ℕ) → rule.action ≡ Action.Other name → ⊥) → Passes d rule
   passes_other d rule no_call no_other = record {
-    named = λ k q. absurd (no_call k q);
-    below = λ k q. absurd (no_call k q);
+    named = λ k q. absurd (no_call k (is_call rule.action k q));
+    below = λ k q. absurd (no_call k (is_call rule.action k q));
     known = no_other;
   }
 

@@ -1,7 +1,8 @@
 -- The least values of a cube's dimensions, and where there are none.
-use Rattle.std.proofs.Common.{◌≡◌, ℕ, ◌+◌, ◌-◌, ◌*◌, ◌^◌, ◌<◌, ◌≤◌, List, [], ◌∷◌, Bool, true, false, ◌&&◌, ◌||◌, Option, None, Some, ◌∙◌, ap, arith, length, get_or, take, drop}
+use Rattle.std.proofs.Common.{◌≡◌, ℕ, ◌+◌, ◌-◌, ◌*◌, ◌^◌, ◌<◌, ◌≤◌, List, [], ◌∷◌, Bool, true, false, ◌&&◌, Option, None, Some, ◌∙◌, ap, arith, inl, inr, subst, sym, length, get_or, drop}
 use Rattle.std.specs.Int.{bit_at, trailing_zeros, w64}
-use Rattle.std.specs.List.{AllByRecursion}
+use Rattle.std.proofs.lemmas.List.{drop_all}
+use Rattle.basics.proofs.Truths.{or_left, or_right}
 use Rattle.std.proofs.lemmas.Bool.Decides.{nat_tests}
 use Rattle.std.proofs.lemmas.Nat.Bits.{bit_at-trailing_zeros, bit_at-zero, bit_at_cat_high}
 use Rattle.interval_set.specs.declared.set.Range.{Range}
@@ -14,9 +15,10 @@ use Rattle.box_norm.specs.declared.cube.Cube.{Cube}
 use Rattle.box_norm.specs.Cubes.{any_holds, holds_cube}
 use Rattle.box_norm.specs.Overlaps.{and_of, holds_some}
 use Rattle.box_norm.proofs.OverlapLaws.{and_holds}
-use Rattle.region_cut.specs.Hits.{AreParts, HitsOne, IsFirstHit, IsHit, IsLeastOf}
-use Rattle.region_cut.specs.Least.{AreApart, IsLeastBit}
-use Rattle.region_cut.proofs.Items.{around_item}
+use Rattle.region_cut.specs.Least.{AreApart, IsHit, IsLeastBit}
+use Rattle.region_cut.specs.Search.{AllApart, IsFirstHit}
+use Rattle.region_cut.specs.inner.Hits.{AreParts, HitsFirst, HitsOne, IsLeastOf}
+use Rattle.region_cut.proofs.Items.{drop_item}
 
 -- numbers of a set are below its bound
 pub below_bound : (w n : ℕ) (rs : List Range) → IsSet w rs → has rs n ≡ true → n < 2 ^ w
@@ -91,27 +93,33 @@ hits_one a b common e None l = λ p v h k. held_by (holds_cube a p) (holds_cube 
 hits_one a b common e (Some p) l = record { common = common; common_is = e; least = l.0; valid = l.1 }
 
 -- parts of a region that is apart from the cube
-left_true : (a b : Bool) → a ≡ true → (a || b) ≡ true
-left_true a b h = grind (arith, h)
-
-right_true : (a b : Bool) → b ≡ true → (a || b) ≡ true
-right_true a b h = grind (arith, h)
-
-pub parts_apart : {W : ℕ} (region cube : Cube W) (parts : List (Cube W)) → AreParts region parts → AreApart region cube → AllByRecursion (λ c. AreApart c cube) parts
+pub parts_apart : {W : ℕ} (region cube : Cube W) (parts : List (Cube W)) → AreParts region parts → AreApart region cube → AllApart parts cube
 parts_apart region cube [] within apart = tt
 parts_apart region cube (c ∷ cs) within apart = (
-  λ p v h k. apart p v (within p v (left_true (holds_cube c p) (any_holds cs p) h)) k,
-  parts_apart region cube cs (λ p v h. within p v (right_true (holds_cube c p) (any_holds cs p) h)) apart,
+  λ p v h k. apart p v (within p v (or_left (holds_cube c p) (any_holds cs p) h)) k,
+  parts_apart region cube cs (λ p v h. within p v (or_right (holds_cube c p) (any_holds cs p) h)) apart,
 )
 
--- what several regions answer, where the first that has a packet is at this place
-pub hit_at : {W : ℕ} (regions : List (Cube W)) (cube : Cube W) (i : ℕ) (x : Cube W) → i < length regions → x ≡ get_or regions i x →
-    AllByRecursion (λ c. AreApart c cube) (take i regions) → (p : Packet) → IsHit x cube p → IsFirstHit regions cube p
-hit_at regions cube i x h is apart p hit = record {
-  passed = take i regions;
-  here = x;
-  rest = drop (i + 1) regions;
-  whole = around_item regions i x h is;
-  apart = apart;
-  hit = hit;
-}
+-- what several regions answer, where the first of them has no packet
+later : {W : ℕ} (region : Cube W) (regions : List (Cube W)) (cube : Cube W) → AreApart region cube → (o : Option Packet) → HitsFirst regions cube o → HitsFirst (region ∷ regions) cube o
+later region regions cube apart None h = (apart, h)
+later region regions cube apart (Some p) h = inr (apart, h)
+
+-- what the regions from this place on answer, all do
+pub record Passed {W : ℕ} (regions : List (Cube W)) (cube : Cube W) (i : ℕ) : Type 0 where
+  pub answers : (o : Option Packet) → HitsFirst (drop i regions) cube o → HitsFirst regions cube o
+
+pub none_passed : {W : ℕ} (regions : List (Cube W)) (cube : Cube W) → Passed regions cube 0
+none_passed regions cube = record { answers = λ o h. h }
+
+pub all_passed : {W : ℕ} (regions : List (Cube W)) (cube : Cube W) (i : ℕ) → length regions ≤ i → Passed regions cube i → AllApart regions cube
+all_passed regions cube i past s = s.answers None (subst (λ l. AllApart l cube) (sym (drop_all i regions past)) tt)
+
+module _ {W : ℕ} (regions : List (Cube W)) (cube : Cube W) (i : ℕ) (x : Cube W) (h : i < length regions) (is : x ≡ get_or regions i x) (s : Passed regions cube i) where
+  pub one_passed : AreApart x cube → Passed regions cube (i + 1)
+  one_passed apart = record {
+    answers = λ o hits. s.answers o (subst (λ l. HitsFirst l cube o) (sym (drop_item regions i x h is)) (later x (drop (i + 1) regions) cube apart o hits));
+  }
+
+  pub hit_at : (p : Packet) → IsHit x cube p → IsFirstHit regions cube p
+  hit_at p hit = s.answers (Some p) (subst (λ l. IsFirstHit l cube p) (sym (drop_item regions i x h is)) (inl hit))

@@ -2,5 +2,5 @@ pub mod ApartLaws
 pub mod Items
 pub mod LeastLaws
 pub mod PacketLaws
-pub mod Searches
+pub mod Searching
 pub mod WholeLaws

@@ -1,32 +1,21 @@
--- What a list of regions that the rules leave tells of a packet.
-use Rattle.std.proofs.Common.{◌≡◌, ℕ, List, [], ◌∷◌, ◌++◌, Bool, true, false, not, ◌&&◌, ◌||◌, Option, None, Some, refl, sym, ◌∙◌, ap, arith}
+-- What the search of some regions tells of a packet.
+use Rattle.std.proofs.Common.{◌≡◌, ℕ, List, [], ◌∷◌, Bool, true, false, not, ◌&&◌, ◌||◌, Option, None, Some, refl, sym, ◌∙◌, ap, arith, inl, inr}
 use Rattle.std.specs.Prelude.{if◌then◌else◌, unwrap_or}
-use Rattle.std.specs.List.{AllByRecursion}
 use Rattle.primitives.specs.declared.prim.Packet.{Packet}
 use Rattle.primitives.specs.Holds.{IsValid}
 use Rattle.fw_rule.specs.declared.rule.Verdict.{Verdict}
-use Rattle.closure.specs.Sides.{is_accept}
+use Rattle.fw_rule.specs.Answers.{is_accept}
 use Rattle.box_norm.specs.declared.cube.Cube.{Cube}
 use Rattle.box_norm.specs.declared.cube.SimpleRule.{SimpleRule}
 use Rattle.box_norm.specs.Cubes.{any_holds, each_piece, holds_cube}
 use Rattle.box_norm.specs.Normal.{first_of}
-use Rattle.box_norm.specs.Overlaps.{and_of, holds_some, minus_of}
+use Rattle.box_norm.specs.Overlaps.{holds_some, minus_of}
 use Rattle.box_norm.proofs.NormalLaws.{whole_holds}
 use Rattle.box_norm.proofs.OverlapLaws.{and_holds, minus_holds}
 use Rattle.box_norm.proofs.PieceLaws.{any_append}
-use Rattle.region_cut.specs.Hits.{FindsValid}
-use Rattle.region_cut.specs.Least.{AreApart, IsLeastPacket}
-use Rattle.region_cut.specs.Search.{FindNothing, Finds, FindsNone, IsFound, Tells, is_accepted, left_after, left_by, with_policy}
-
--- each rule that accepts has nothing in common with the regions before it, by recursion
-abbrev pub NothingFrom : {W : ℕ} → List (SimpleRule W) → List (Cube W) → Type 0
-NothingFrom [] regions = Unit {0}
-NothingFrom (rule ∷ rules) regions = (rule.accept ≡ true → AllByRecursion (λ c. AreApart c rule.cube) regions) × NothingFrom rules (left_by rule regions)
-
-pub nothing_from : {W : ℕ} (rules : List (SimpleRule W)) (regions : List (Cube W)) → FindNothing rules regions → NothingFrom rules regions
-nothing_from [] regions h = tt
-nothing_from (rule ∷ rules) regions h =
-    (h [] rules rule refl, nothing_from rules (left_by rule regions) (λ front back other e a. h (rule ∷ front) back other (ap (λ l. rule ∷ l) e) a))
+use Rattle.basics.proofs.Truths.{all_true, both_true, or_left, or_right}
+use Rattle.region_cut.specs.Least.{IsHit, IsLeastPacket}
+use Rattle.region_cut.specs.Search.{AllApart, Finds, FindsNothing, Here, IsFirstHit, Later, Past, Searches, Tells, is_accepted, left_by, with_policy}
 
 -- a packet of the regions isn't in a cube that is apart from each
 missed : (a b r : Bool) → (a ≡ true → b ≡ true → ⊥) → (r ≡ true → b ≡ false) → (a || r) ≡ true → b ≡ false
@@ -34,7 +23,7 @@ missed true true r f g h = absurd (f refl refl)
 missed true false r f g h = refl
 missed false b r f g h = g h
 
-apart_misses : {W : ℕ} (cube : Cube W) (regions : List (Cube W)) (p : Packet) → IsValid W p → AllByRecursion (λ c. AreApart c cube) regions → any_holds regions p ≡ true → holds_cube cube p ≡ false
+apart_misses : {W : ℕ} (cube : Cube W) (regions : List (Cube W)) (p : Packet) → IsValid W p → AllApart regions cube → any_holds regions p ≡ true → holds_cube cube p ≡ false
 apart_misses cube [] p v h k = absurd (grind (arith, k))
 apart_misses cube (c ∷ cs) p v h k = missed (holds_cube c p) (holds_cube cube p) (any_holds cs p) (h.0 p v) (apart_misses cube cs p v h.1) k
 
@@ -55,51 +44,75 @@ stays_by : {W : ℕ} (b : Bool) (rule : SimpleRule W) (regions : List (Cube W)) 
 stays_by true rule regions p v h k = h
 stays_by false rule regions p v h k = let e = each_holds rule.cube regions p v in grind (arith, e, h, k)
 
-was_by : {W : ℕ} (b : Bool) (rule : SimpleRule W) (regions : List (Cube W)) (p : Packet) → IsValid W p → (b ≡ true → AllByRecursion (λ c. AreApart c rule.cube) regions) →
+pub was_by : {W : ℕ} (b : Bool) (rule : SimpleRule W) (regions : List (Cube W)) (p : Packet) → IsValid W p → (b ≡ true → AllApart regions rule.cube) →
     any_holds (if b then regions else each_piece (λ c. minus_of c rule.cube) regions) p ≡ true → (any_holds regions p ≡ true) × (holds_cube rule.cube p ≡ false)
 was_by true rule regions p v f h = (h, apart_misses rule.cube regions p v (f refl) h)
 was_by false rule regions p v f h = let e = each_holds rule.cube regions p v in (grind (arith, e, h), grind (arith, e, h))
 
--- a packet of the regions is accepted by no rule
+-- what a hit tells: its packet is in the region and in the cube
+least_holds : {W : ℕ} (c : Cube W) (p : Packet) → IsLeastPacket c p → holds_cube c p ≡ true
+least_holds c p l = all_true _ _ l.in_name.1 (all_true _ _ l.out_name.1 (all_true _ _ l.src.0 (all_true _ _ l.dst.0
+    (all_true _ _ l.proto.0 (all_true _ _ l.sport.0 (all_true _ _ l.dport.0 (all_true _ _ l.flags.0 l.state.0)))))))
+
+hit_holds : {W : ℕ} (a b : Cube W) (p : Packet) → IsHit a b p → (holds_cube a p ≡ true) × (holds_cube b p ≡ true)
+hit_holds a b p h =
+    both_true (holds_cube a p) (holds_cube b p) (sym (and_holds a b p h.valid) ∙ ap (λ o. holds_some o p) h.common_is ∙ least_holds h.common p h.least)
+
+first_holds : {W : ℕ} (regions : List (Cube W)) (cube : Cube W) (p : Packet) → IsFirstHit regions cube p →
+    IsValid W p × (any_holds regions p ≡ true) × (holds_cube cube p ≡ true)
+first_holds [] cube p h = absurd h
+first_holds (c ∷ cs) cube p h = elim h [
+  | inl hit ↦ let both = hit_holds c cube p hit in (hit.valid, or_left (holds_cube c p) (any_holds cs p) both.0, both.1)
+  | inr later ↦ let rest = first_holds cs cube p later.1 in (rest.0, or_right (holds_cube c p) (any_holds cs p) rest.1, rest.2)
+]
+
+-- regions that are apart from a cube have no hit
+pub no_hit : {W : ℕ} (regions : List (Cube W)) (cube : Cube W) (p : Packet) → AllApart regions cube → IsFirstHit regions cube p → ⊥
+no_hit [] cube p apart h = h
+no_hit (c ∷ cs) cube p apart h = elim h [
+  | inl hit ↦ let both = hit_holds c cube p hit in apart.0 p hit.valid both.0 both.1
+  | inr later ↦ no_hit cs cube p apart.1 later.1
+]
+
+-- What a search tells: an answer's packet is in the regions, and the first rule that has it accepts it. Where there is no answer, no rule
+-- accepts a packet of the regions.
+abbrev Told : {W : ℕ} → List (SimpleRule W) → List (Cube W) → Option Packet → Type 0
+Told {W} rules regions None = (p : Packet) → IsValid W p → any_holds regions p ≡ true → unwrap_or (first_of rules p) false ≡ false
+Told {W} rules regions (Some p) = IsValid W p × (any_holds regions p ≡ true) × (first_of rules p ≡ Some true)
+
+taken : (h a : Bool) (o : Option Bool) → h ≡ true → a ≡ true → (if h then Some a else o) ≡ Some true
+taken true a o h k = ap Some k
+taken false a o h k = cc
+
+passed_over : (h a : Bool) (o r : Option Bool) → h ≡ false → o ≡ r → (if h then Some a else o) ≡ r
+passed_over true a o r h k = cc
+passed_over false a o r h k = k
+
 turned : (h a : Bool) (o : Option Bool) → (h ≡ true → a ≡ false) → (h ≡ false → unwrap_or o false ≡ false) → unwrap_or (if h then Some a else o) false ≡ false
 turned true a o f g = f refl
 turned false a o f g = g refl
 
-drops_by : {W : ℕ} (a : Bool) (rule : SimpleRule W) (regions : List (Cube W)) (p : Packet) → IsValid W p → (a ≡ true → AllByRecursion (λ c. AreApart c rule.cube) regions) →
+drops_by : {W : ℕ} (a : Bool) (rule : SimpleRule W) (regions : List (Cube W)) (p : Packet) → IsValid W p → (a ≡ true → AllApart regions rule.cube) →
     any_holds regions p ≡ true → holds_cube rule.cube p ≡ true → a ≡ false
 drops_by true rule regions p v f h k = let e = apart_misses rule.cube regions p v (f refl) h in absurd (grind (arith, e, k))
 drops_by false rule regions p v f h k = refl
 
-pub none_accepts : {W : ℕ} (rules : List (SimpleRule W)) (regions : List (Cube W)) (p : Packet) → IsValid W p → NothingFrom rules regions → any_holds regions p ≡ true →
-    unwrap_or (first_of rules p) false ≡ false
-none_accepts [] regions p v n h = refl
-none_accepts (rule ∷ rules) regions p v n h =
-    turned (holds_cube rule.cube p) rule.accept (first_of rules p) (drops_by rule.accept rule regions p v n.0 h)
-    (λ k. none_accepts rules (left_by rule regions) p v n.1 (stays_by rule.accept rule regions p v h k))
+later_told : {W : ℕ} (rule : SimpleRule W) (rules : List (SimpleRule W)) (regions : List (Cube W)) → FindsNothing rule regions → (answer : Option Packet) →
+    Told rules (left_by rule regions) answer → Told (rule ∷ rules) regions answer
+later_told rule rules regions f None told = λ p v h.
+    turned (holds_cube rule.cube p) rule.accept (first_of rules p) (drops_by rule.accept rule regions p v f h)
+    (λ k. told p v (stays_by rule.accept rule regions p v h k))
+later_told rule rules regions f (Some p) told =
+    let was = was_by rule.accept rule regions p told.0 f told.1 in
+    (told.0, was.0, passed_over (holds_cube rule.cube p) rule.accept (first_of rules p) (Some true) was.1 told.2)
 
--- no rule has a packet that is left, and it was in the regions
-unmatched : (h a : Bool) (o : Option Bool) → h ≡ false → o ≡ None → (if h then Some a else o) ≡ None
-unmatched true a o h k = absurd (grind (arith, h))
-unmatched false a o h k = k
-
-pub left_unmatched : {W : ℕ} (rules : List (SimpleRule W)) (regions : List (Cube W)) (p : Packet) → IsValid W p → NothingFrom rules regions → any_holds (left_after rules regions) p ≡ true →
-    (first_of rules p ≡ None) × (any_holds regions p ≡ true)
-left_unmatched [] regions p v n h = (refl, h)
-left_unmatched (rule ∷ rules) regions p v n h =
-    let ih = left_unmatched rules (left_by rule regions) p v n.1 h in
-    let was = was_by rule.accept rule regions p v n.0 ih.1 in
-    (unmatched (holds_cube rule.cube p) rule.accept (first_of rules p) was.1 ih.0, was.0)
-
--- the first rule that has a packet, after rules that lack it
-past_rule : (b a : Bool) (o r s : Option Bool) → (if b then Some a else o) ≡ None → (o ≡ None → r ≡ s) → (if b then Some a else r) ≡ s
-past_rule true a o r s h f = absurd (grind (arith, h))
-past_rule false a o r s h f = f h
-
-after_unmatched : {W : ℕ} (before : List (SimpleRule W)) (rule : SimpleRule W) (after : List (SimpleRule W)) (p : Packet) → first_of before p ≡ None → holds_cube rule.cube p ≡ true →
-    first_of (before ++ rule ∷ after) p ≡ Some rule.accept
-after_unmatched [] rule after p h k = ap (λ b. if b then Some rule.accept else first_of after p) k
-after_unmatched (other ∷ before) rule after p h k =
-    past_rule (holds_cube other.cube p) other.accept (first_of before p) (first_of (before ++ rule ∷ after) p) (Some rule.accept) h (λ e. after_unmatched before rule after p e k)
+searched_told : {W : ℕ} (rules : List (SimpleRule W)) (regions : List (Cube W)) (answer : Option Packet) → Searches rules regions answer → Told rules regions answer
+searched_told rules regions answer Past = λ p v h. refl
+searched_told rules regions answer (Here {rule = rule} {rules = others} {regions = here} {p = p} a hit) =
+    let first = first_holds here rule.cube p hit in
+    (first.0, first.1, taken (holds_cube rule.cube p) rule.accept (first_of others p) first.2 a)
+searched_told rules regions answer (Later {rule = rule} {rules = others} {regions = here} {answer = found} f s) =
+    later_told rule others here f found (searched_told others (left_by rule here) found s)
 
 -- the policy as one last rule answers for each valid packet that no rule has
 by_policy : (h a : Bool) (o : Option Bool) (d : Bool) (r : Option Bool) → r ≡ Some (unwrap_or o d) → (if h then Some a else r) ≡ Some (unwrap_or (if h then Some a else o) d)
@@ -111,58 +124,24 @@ policy_first {W} [] policy p v = ap (λ b. if b then Some (is_accept policy) els
 policy_first (rule ∷ rules) policy p v =
     by_policy (holds_cube rule.cube p) rule.accept (first_of rules p) (is_accept policy) (first_of (with_policy rules policy) p) (policy_first rules policy p v)
 
--- what an answer without a packet tells
-pub none_tells : {W : ℕ} (region : Cube W) (rules : List (SimpleRule W)) (policy : Verdict) → FindsNone region (with_policy rules policy) → Tells region rules policy None
-none_tells {W} region rules policy f p v h =
-    let n = nothing_from (with_policy rules policy) (region ∷ []) f.nothing in
-    let k : any_holds (region ∷ []) p ≡ true = grind (arith, h) in
-    let e = none_accepts (with_policy rules policy) (region ∷ []) p v n k in
-    sym (ap (λ o. unwrap_or o false) (policy_first rules policy p v)) ∙ e
+-- from what the search of one region answers to what is said of it
+only_one : (a : Bool) → (a || false) ≡ true → a ≡ true
+only_one true e = refl
+only_one false e = e
 
--- the least packet of a cube is in it
-all_true : (a b : Bool) → a ≡ true → b ≡ true → (a && b) ≡ true
-all_true a b e f = grind (arith, e, f)
+one_holds : (a : Bool) → a ≡ true → (a || false) ≡ true
+one_holds a e = or_left a false e
 
-least_holds : {W : ℕ} (c : Cube W) (p : Packet) → IsLeastPacket c p → holds_cube c p ≡ true
-least_holds c p l = all_true _ _ l.in_name.1 (all_true _ _ l.out_name.1 (all_true _ _ l.src.0 (all_true _ _ l.dst.0
-    (all_true _ _ l.proto.0 (all_true _ _ l.sport.0 (all_true _ _ l.dport.0 (all_true _ _ l.flags.0 l.state.0)))))))
+some_same : {X : Type 0} (a b : X) → Some a ≡ Some b → a ≡ b
+some_same a b e = cc
 
-any_here : {W : ℕ} (passed : List (Cube W)) (here : Cube W) (rest : List (Cube W)) (p : Packet) → holds_cube here p ≡ true → any_holds (passed ++ here ∷ rest) p ≡ true
-any_here passed here rest p h = let e = any_append passed (here ∷ rest) p in grind (arith, e, h)
+region_told : {W : ℕ} (region : Cube W) (rules : List (SimpleRule W)) (policy : Verdict) (answer : Option Packet) → Told (with_policy rules policy) (region ∷ []) answer →
+    Tells region rules policy answer
+region_told region rules policy None told = λ p v h.
+    sym (ap (λ o. unwrap_or o false) (policy_first rules policy p v)) ∙ told p v (one_holds (holds_cube region p) h)
+region_told region rules policy (Some p) told =
+    (told.0, only_one (holds_cube region p) told.1, some_same (is_accepted rules policy p) true (sym (policy_first rules policy p told.0) ∙ told.2))
 
-both_true : (a b s : Bool) → s ≡ (a && b) → s ≡ true → (a ≡ true) × (b ≡ true)
-both_true true true s e h = (refl, refl)
-both_true true false s e h = absurd (grind (arith, e, h))
-both_true false b s e h = absurd (grind (arith, e, h))
-
-module _ {W : ℕ} (region : Cube W) (rules : List (SimpleRule W)) (policy : Verdict) (p : Packet) (f : IsFound region (with_policy rules policy) p) (v : IsValid W p) where
-  holds_both : (holds_cube f.here p ≡ true) × (holds_cube f.rule.cube p ≡ true)
-  holds_both = both_true (holds_cube f.here p) (holds_cube f.rule.cube p) (holds_some (and_of f.here f.rule.cube) p) (and_holds f.here f.rule.cube p v)
-      (ap (λ o. holds_some o p) f.common_is ∙ least_holds f.common p f.least)
-
-  is_left : any_holds (left_after f.before (region ∷ [])) p ≡ true
-  is_left = ap (λ l. any_holds l p) f.regions ∙ any_here f.passed f.here f.rest p holds_both.0
-
-  was_there : (first_of f.before p ≡ None) × (any_holds (region ∷ []) p ≡ true)
-  was_there = left_unmatched f.before (region ∷ []) p v (nothing_from f.before (region ∷ []) f.nothing_before) is_left
-
-  answered : Some (is_accepted rules policy p) ≡ Some f.rule.accept
-  answered = sym (policy_first rules policy p v) ∙ ap (λ l. first_of l p) f.whole ∙ after_unmatched f.before f.rule f.after p was_there.0 holds_both.1
-
-  accepted : is_accepted rules policy p ≡ true
-  accepted = ap (λ o. unwrap_or o false) answered ∙ f.accepts
-
-  in_region : holds_cube region p ≡ true
-  in_region = let e = was_there.1 in grind (arith, e)
-
-  pub some_tells : Tells region rules policy (Some p)
-  some_tells = (v, in_region, accepted)
-
--- from what is found to the two clauses of the search
-pub tells : {W : ℕ} (region : Cube W) (rules : List (SimpleRule W)) (policy : Verdict) (o : Option Packet) → FindsValid region (with_policy rules policy) o → Tells region rules policy o
-tells region rules policy None f = none_tells region rules policy f
-tells region rules policy (Some p) f = some_tells region rules policy p f.0 f.1
-
-pub finds : {W : ℕ} (region : Cube W) (rules : List (SimpleRule W)) (o : Option Packet) → FindsValid region rules o → Finds region rules o
-finds region rules None f = f
-finds region rules (Some p) f = f.0
+pub tells : {W : ℕ} (region : Cube W) (rules : List (SimpleRule W)) (policy : Verdict) (answer : Option Packet) → Finds region (with_policy rules policy) answer →
+    Tells region rules policy answer
+tells region rules policy answer f = region_told region rules policy answer (searched_told (with_policy rules policy) (region ∷ []) answer f.0)

@@ -1,3 +1,3 @@
-pub mod Hits
 pub mod Least
 pub mod Search
+pub mod inner

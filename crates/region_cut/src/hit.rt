@@ -5,7 +5,7 @@ ghost use Rattle.interval_set.specs.Numbers.{IsLeast, has};
 ghost use Rattle.primitives.specs.Holds.{has_bit};
 ghost use Rattle.box_norm.specs.Regular.{HasStates};
 ghost use Rattle.region_cut.specs.Least.{IsLeastBit};
-ghost use Rattle.region_cut.specs.Hits.{AreParts, HitsFirst, HitsOne, IsLeastOf};
+ghost use Rattle.region_cut.specs.inner.Hits.{AreParts, HitsFirst, HitsOne, IsLeastOf};
 
 use crate::apart::are_apart;
 use box_norm::Cube;

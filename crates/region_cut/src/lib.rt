@@ -8,6 +8,3 @@ mod search;
 
 pub use fault::RegionFault;
 pub use search::first_hit;
-
-#[cfg(test)]
-mod tests;

@@ -10,14 +10,15 @@ use Rattle.interval_set.proofs.PrefixLaws.{prefix_ordered, prefix_within}
 use Rattle.addr_text.specs.Ipv4Laws.{ipv4_fits, ipv4_not_number, ipv4_one, ipv4_plain}
 use Rattle.addr_text.specs.Ipv6Laws.{ipv6_fits, ipv6_not_number, ipv6_one, ipv6_plain}
 use Rattle.addr_text.specs.Nets.{IsRangeText}
-use Rattle.addr_text.specs.Parts.{Lacks}
-use Rattle.addr_text.proofs.PartLemmas.{lacks_dash, lacks_none, lacks_slash, one_parting}
+use Rattle.basics.specs.Parts.{Lacks, comma_parts}
+use Rattle.basics.proofs.PartingLemmas.{lacks_none, one_last_parting, one_parting, two_marks}
+use Rattle.addr_text.proofs.PartLemmas.{lacks_dash, lacks_slash}
 use Rattle.addr_text.proofs.TextLemmas.{IsFamily, one_range_by}
 use Rattle.request.specs.Arguments.{AreClaims, IsAlone, IsClaim, IsPart, IsPrefixText}
 use Rattle.request.specs.Fields.{SaysAddress}
-use Rattle.request.specs.Requests.{IsRange, width_of}
+use Rattle.primitives.specs.Ranges.{IsRange}
+use Rattle.request.specs.Requests.{width_of}
 use Rattle.request.specs.declared.types.Claim.{Claim}
-use Rattle.request.proofs.PartingLemmas.{comma_parts, one_last_parting, two_marks}
 use Rattle.request.proofs.ReadingLemmas.{zip_each, zip_once}
 
 dashed : (text front back : List ℕ) → text ≡ (front ++ codes "-") ++ back → text ≡ front ++ (45 ∷ back)

@@ -5,7 +5,7 @@ use Rattle.std.specs.Str.{bytes_eq}
 use Rattle.std.proofs.lemmas.Fmt.{decimal_injective}
 use Rattle.addr_text.specs.Ipv4Laws.{ipv4_one}
 use Rattle.addr_text.specs.Ipv6Laws.{ipv6_one}
-use Rattle.closure.specs.declared.sides.Side.{Side}
+use Rattle.fw_rule.specs.declared.side.Side.{Side}
 use Rattle.primitives.specs.declared.prim.Packet.{Packet}
 use Rattle.primitives.specs.Words.{SpellsFlags, SpellsProto}
 use Rattle.clap.specs.Words.{Text}
@@ -18,7 +18,7 @@ use Rattle.request.specs.Fields.{Given, IsAsked, SaysAddress, SaysName, SaysPort
 use Rattle.request.specs.Requests.{Asks, AsksLoad, AsksMatrix, Parts, Spells, Suits, word_of}
 use Rattle.request.proofs.ClaimLemmas.{claims_once}
 use Rattle.request.proofs.ServiceLemmas.{port_once, service_once, side_once}
-use Rattle.request.proofs.WordLemmas.{flags_once, proto_once}
+use Rattle.primitives.proofs.WordLemmas.{flags_once, proto_once}
 
 -- a value says one thing
 abbrev Once : {A : Type 0} → (List ℕ → A → Type 0) → Type 0

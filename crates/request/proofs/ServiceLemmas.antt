@@ -2,17 +2,18 @@
 use Rattle.std.proofs.Common.{◌≡◌, ◌∙◌, ◌==◌, ◌++◌, ℕ, List, ◌∷◌, Option, None, Some, not, refl, sym, ap, subst, arith, inl, inr, codes, get_or, lit≤}
 use Rattle.std.specs.List.{list_all}
 use Rattle.std.proofs.lemmas.Fmt.{decimal_injective}
-use Rattle.addr_text.specs.Parts.{Lacks}
-use Rattle.addr_text.proofs.PartLemmas.{lacks_none, one_parting}
-use Rattle.primitives.specs.Words.{Named, SpellsProto, proto_names}
-use Rattle.closure.specs.declared.sides.Side.{Side}
+use Rattle.basics.specs.Parts.{Lacks}
+use Rattle.basics.proofs.PartingLemmas.{decimal_lacks, lacks_none, one_parting, tested_lacks}
+use Rattle.primitives.specs.Tables.{Named, proto_names}
+use Rattle.primitives.specs.Words.{SpellsProto}
+use Rattle.primitives.proofs.WordLemmas.{number_passes, proto_once}
+use Rattle.fw_rule.specs.declared.side.Side.{Side}
 use Rattle.service_packet.specs.declared.service.Service.{Service}
 use Rattle.request.specs.Arguments.{IsService, IsSide}
 use Rattle.request.specs.Fields.{SaysPort}
-use Rattle.request.proofs.PartingLemmas.{decimal_lacks, tested_lacks}
-use Rattle.request.proofs.WordLemmas.{number_passes, proto_once}
 
 proto_lacks : (text : List ℕ) (n : ℕ) → SpellsProto text n → Lacks 58 text
+unfolding proto_names
 proto_lacks text n (inl is) = tested_lacks 58 text (number_passes (λ (word : Named). list_all (λ b. not (b == 58)) word.name) proto_names text n refl is)
 proto_lacks text n (inr (small, is)) = subst (Lacks 58) (sym is) (decimal_lacks 58 n (lit≤ tt) (omega (arith, small)))
 

@@ -1,12 +1,12 @@
 -- The arguments of a matrix, of a check of sources and of a load.
-use Rattle.std.specs.Prelude.{ℕ, ◌≡◌, ◌≢◌, ◌≤◌, ◌==◌, ◌⊎◌, List, [], ◌∷◌, ◌++◌, Option, None, Some, codes, decimal}
-use Rattle.std.specs.List.{AllZip, slice_split}
+use Rattle.std.specs.Prelude.{ℕ, ◌≡◌, ◌≢◌, ◌≤◌, ◌⊎◌, List, [], ◌∷◌, ◌++◌, Option, None, Some, codes, decimal}
+use Rattle.std.specs.List.{AllZip}
 use Rattle.interval_set.specs.declared.set.Range.{Range}
 use Rattle.interval_set.specs.Prefix.{prefix_range}
 use Rattle.addr_text.specs.Nets.{IsRangeText}
-use Rattle.addr_text.specs.Parts.{Lacks}
+use Rattle.basics.specs.Parts.{Lacks, comma_parts}
 use Rattle.primitives.specs.Words.{SpellsProto}
-use Rattle.closure.specs.declared.sides.Side.{Side}
+use Rattle.fw_rule.specs.declared.side.Side.{Side}
 use Rattle.service_packet.specs.declared.service.Service.{Service}
 use Rattle.request.specs.Fields.{SaysPort}
 use Rattle.request.specs.declared.types.Claim.{Claim}
@@ -43,7 +43,7 @@ module _ (Reads : List ℕ → ℕ → Type 0) (W : ℕ) where
     pub parted : text ≡ claim.name ++ (61 ∷ set)
     pub last : Lacks 61 set
     pub named : claim.name ≢ []
-    pub parts : AllZip IsPart (slice_split (λ b. b == 44) set) claim.inside
+    pub parts : AllZip IsPart (comma_parts set) claim.inside
 
   -- each text is the claim beside it
   abbrev pub AreClaims : List (List ℕ) → List Claim → Type 0

@@ -3,7 +3,8 @@ use Rattle.std.specs.Prelude.{ℕ, ◌≡◌, ◌≤◌, ◌==◌, Bool, false, 
 use Rattle.std.specs.List.{filter_map, list_all, list_any, starts_with}
 use Rattle.addr_text.specs.Grammar.{IsIpv4, IsIpv6}
 use Rattle.primitives.specs.declared.prim.Packet.{Packet}
-use Rattle.primitives.specs.Words.{SpellsFlags, SpellsProto, number_in, state_names}
+use Rattle.primitives.specs.Tables.{number_in, state_names}
+use Rattle.primitives.specs.Words.{SpellsFlags, SpellsProto}
 use Rattle.request.specs.Names.{name_of}
 
 -- an argument's value, where the argument begins with the field's name and `=`

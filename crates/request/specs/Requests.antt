@@ -1,11 +1,11 @@
 -- Which words spell which request.
-use Rattle.std.specs.Prelude.{ℕ, ◌≡◌, ◌≢◌, ◌≤◌, ◌-◌, ◌^◌, List, [], ◌∷◌, Option, Some, None, Bool, true, false, unwrap_or, codes, decimal, if◌then◌else◌, option_map}
+use Rattle.std.specs.Prelude.{ℕ, ◌≡◌, ◌≢◌, ◌≤◌, List, [], ◌∷◌, Option, Some, None, Bool, true, false, unwrap_or, codes, decimal, if◌then◌else◌, option_map}
 use Rattle.std.specs.List.{AllByRecursion}
 use Rattle.std.specs.Str.{bytes_eq}
 use Rattle.clap.specs.Words.{Row, Text, Kinds, all_of, first_of}
-use Rattle.interval_set.specs.declared.set.Range.{Range}
 use Rattle.primitives.specs.Holds.{IsValid}
-use Rattle.closure.specs.declared.sides.Side.{Side}
+use Rattle.primitives.specs.Ranges.{IsRange}
+use Rattle.fw_rule.specs.declared.side.Side.{Side}
 use Rattle.service_packet.specs.declared.service.Service.{Service}
 use Rattle.request.specs.CommandLine.{faults_in, rows_in}
 use Rattle.request.specs.Arguments.{AreClaims, IsService, IsSide}
@@ -107,10 +107,6 @@ SpellsOnce words = (r s : Request) → Spells words r → Spells words s → r �
 -- the name of the chain that words ask about, the empty one where clap finds a fault
 abbrev pub chain_in : List Text → Text
 chain_in words = unwrap_or (option_map chain_of (parts_in words)) []
-
--- a range of addresses of w bits, which isn't empty
-abbrev pub IsRange : ℕ → Range → Type 0
-IsRange w r = (r.lo ≤ r.hi) × (r.hi ≤ 2 ^ w - 1)
 
 -- what the arguments of a mode are known to be: a packet and ranges of the family's addresses, and a number from 1 to 1000
 abbrev pub HasBounds : Bool → Mode → Type 0

@@ -1,5 +1,6 @@
 ghost use Rattle.std.specs.Prelude.{◌≡◌, ◌<◌, ◌≤◌, ◌^◌, ◌==◌, map, IfOk, IfSome, IfNone, IsErrOf, List as ListOf};
-ghost use Rattle.std.specs.List.{AllZip, slice_split};
+ghost use Rattle.std.specs.List.{AllZip};
+ghost use Rattle.basics.specs.Parts.{comma_parts};
 ghost use Rattle.interval_set.specs.Numbers.{IsWidth};
 ghost use Rattle.interval_set.specs.Prefix.{prefix_range};
 ghost use Rattle.interval_set.specs.declared.set.Range.{Range as Numbers};
@@ -8,9 +9,9 @@ ghost use Rattle.request.specs.Fields.{SaysAddress};
 ghost use Rattle.request.specs.Requests.{width_of};
 ghost use Rattle.request.specs.declared.types.Claim.{Claim as AnyClaim};
 
-use crate::partings::{last_parted, parted};
 use crate::{Claim, SpellFault};
 use addr_text::{Family, V4, V6, read_number, read_range};
+use basics::{last_parted, parted};
 use interval_set::{Range, Set};
 use match_expr::{Bytes, List};
 use std::alloc::Global;
@@ -55,8 +56,8 @@ fn ranges_of<F: Family<W>, const W: u32>(
     set: &[u8],
 ) -> Result<Vec<Range>, SpellFault>
     requires { IsWidth W }
-    ensures ok { IfOk result (λ v. AllZip (IsPart F.Reads W) (slice_split (λ b. b == 44) set.now) v.items) }
-    ensures usage { IsErrOf result SpellFault.Usage → (rs : ListOf Numbers) → AllZip (IsPart F.Reads W) (slice_split (λ b. b == 44) set.now) rs → ⊥ }
+    ensures ok { IfOk result (λ v. AllZip (IsPart F.Reads W) (comma_parts set.now) v.items) }
+    ensures usage { IsErrOf result SpellFault.Usage → (rs : ListOf Numbers) → AllZip (IsPart F.Reads W) (comma_parts set.now) rs → ⊥ }
 {
     let mut ranges = Vec::new(alloc);
     let mut rest = set;

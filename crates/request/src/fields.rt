@@ -155,7 +155,6 @@ pub fn port(field: &[u8], arguments: &[&str]) -> Result<u16, SpellFault>
 }
 
 /// The flags of a field, none of them where it isn't given.
-#[tactic(auto, using(crate::proofs::WordLemmas::spelled_small))]
 pub fn flags(field: &[u8], arguments: &[&str]) -> Result<u8, SpellFault>
     ensures ok { IfOk result (Given SpellsFlags 0 (values_of field.now (map (λ s. s.now) arguments.now))) }
     ensures small { IfOk result (λ flags. flags < 64) }
@@ -168,6 +167,7 @@ pub fn flags(field: &[u8], arguments: &[&str]) -> Result<u8, SpellFault>
 }
 
 /// The state of a field, NEW where none is given.
+#[tactic(auto, using(crate::proofs::SmallWords::state_fits))]
 pub fn state(field: &[u8], arguments: &[&str]) -> Result<u8, SpellFault>
     ensures ok { IfOk result (Given SaysState 1 (values_of field.now (map (λ s. s.now) arguments.now))) }
     ensures small { IfOk result (λ state. state < 5) }

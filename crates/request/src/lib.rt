@@ -8,7 +8,6 @@ mod laws;
 mod line;
 mod names;
 mod packets;
-mod partings;
 mod services;
 mod sides;
 mod spelling;

@@ -1,6 +1,6 @@
 ghost use Rattle.std.specs.Prelude.{◌≡◌, ℕ, List, [], ◌∷◌, IfOk, IfSome, IfNone, IsErrOf, OnErr, map, option_map, unwrap_or};
 ghost use Rattle.clap.specs.Words.{Text, found_of, rows_of};
-ghost use Rattle.closure.specs.declared.sides.Side.{Side as AnySide};
+ghost use Rattle.fw_rule.specs.declared.side.Side.{Side as AnySide};
 ghost use Rattle.primitives.specs.declared.prim.Packet.{Packet as Asked};
 ghost use Rattle.service_packet.specs.declared.service.Service.{Service as AnyService};
 ghost use Rattle.request.specs.declared.types.Claim.{Claim as AnyClaim};

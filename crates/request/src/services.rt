@@ -3,7 +3,7 @@ ghost use Rattle.service_packet.specs.declared.service.Service.{Service as Asked
 ghost use Rattle.request.specs.Arguments.{IsService};
 
 use crate::fields::read_port;
-use crate::partings::parted;
+use basics::parted;
 use primitives::read_proto;
 use service_packet::Service;
 

@@ -1,8 +1,8 @@
 ghost use Rattle.std.specs.Prelude.{IfSome, IfNone, option_map};
-ghost use Rattle.closure.specs.declared.sides.Side.{Side as Asked};
+ghost use Rattle.fw_rule.specs.declared.side.Side.{Side as Asked};
 ghost use Rattle.request.specs.Arguments.{IsSide};
 
-use closure::Side;
+use fw_rule::Side;
 
 /// The side of a text, upper where there is no text. `None` exactly where the text is neither `upper` nor `lower`.
 pub fn side_of(text: Option<&str>) -> Option<Side>

@@ -1,5 +1,5 @@
 use super::*;
-use closure::Side;
+use fw_rule::Side;
 use interval_set::Range;
 use match_expr::List;
 use primitives::Packet;

@@ -1,7 +1,7 @@
 ghost use Rattle.std.specs.Prelude.{◌≡◌};
 ghost use Rattle.request.specs.declared.types.SpellFault.TheVariants.{Memory};
 
-use closure::Side;
+use fw_rule::Side;
 use interval_set::Range;
 use match_expr::{Bytes, List};
 use primitives::Packet;

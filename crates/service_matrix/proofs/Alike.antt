@@ -1,6 +1,7 @@
 -- An expression says the same of two packets that its tests don't tell apart.
 use Rattle.std.proofs.Common.{◌≡◌, ℕ, zero, suc, Bool, not, List, [], ◌∷◌, ◌++◌, map, Contains, refl, sym, ◌∙◌, ap, subst, arith}
 use Rattle.std.specs.List.{AllByRecursion}
+use Rattle.basics.proofs.Lists.{each_contained, each_left, each_right}
 use Rattle.match_expr.specs.declared.expr.Expr.{Expr, map-Expr, roll-Expr}
 use Rattle.match_expr.specs.declared.expr.Expr.TheOpen.{Expr-F}
 use Rattle.match_expr.specs.declared.expr.Expr.TheFolds.{fold-roll-Expr, ind-Expr}
@@ -25,19 +26,11 @@ module _ {P : Type 0} (f g : P → Bool) where
   abbrev Kept : E → Type 0
   Kept e = AllByRecursion Same (primitives_in e) → eval_of f e ≡ eval_of g e
 
-  all_left : (a b : List P) → AllByRecursion Same (a ++ b) → AllByRecursion Same a
-  all_left [] b h = tt
-  all_left (x ∷ a) b h = (h.0, all_left a b h.1)
-
-  all_right : (a b : List P) → AllByRecursion Same (a ++ b) → AllByRecursion Same b
-  all_right [] b h = h
-  all_right (x ∷ a) b h = all_right a b h.1
-
   each_part : (es : List ((e : E) × Kept e)) → AllByRecursion Same (joined (map primitives_in (map (λ e. e.0) es))) →
       every (map (eval_of f) (map (λ e. e.0) es)) ≡ every (map (eval_of g) (map (λ e. e.0) es))
   each_part [] h = refl
   each_part (e ∷ es) h =
-      rw (e.1 (all_left (primitives_in e.0) (joined (map primitives_in (map (λ e. e.0) es))) h), each_part es (all_right (primitives_in e.0) (joined (map primitives_in (map (λ e. e.0) es))) h)) refl
+      rw (e.1 (each_left Same (primitives_in e.0) (joined (map primitives_in (map (λ e. e.0) es))) h), each_part es (each_right Same (primitives_in e.0) (joined (map primitives_in (map (λ e. e.0) es))) h)) refl
 
   abbrev Layer : Expr-F P E → Type 0
   Layer z = AllByRecursion Same (listed (map-Expr P E (List P) primitives_in z)) → truth f (map-Expr P E Bool (eval_of f) z) ≡ truth g (map-Expr P E Bool (eval_of g) z)
@@ -51,10 +44,6 @@ module _ {P : Type 0} (f g : P → Bool) where
   eval_alike = ind-Expr P Kept (λ x y is.
       subst (λ t. AllByRecursion Same t → eval_of f (roll-Expr P x) ≡ eval_of g (roll-Expr P x)) (sym (fold-roll-Expr P (List P) listed x))
       (λ h. fold-roll-Expr P Bool (truth f) x ∙ subst Layer is (layer y) h ∙ sym (fold-roll-Expr P Bool (truth g) x)))
-
-each_contained : {X : Type 0} (Q : X → Type 0) (xs : List X) → ((x : X) → Contains xs x → Q x) → AllByRecursion Q xs
-each_contained Q [] f = tt
-each_contained Q (x ∷ xs) f = (f x (zero, omega arith, refl), each_contained Q xs (λ y c. f y (suc c.0, omega (arith, c.1), c.2)))
 
 module _ {W : ℕ} (dump : Dump (Prim_ W)) (chain : ℕ) (p q : Packet) where
   known_alike : PassAlike dump chain p q → KnownAlike (holds_of {W = W}) dump chain p q

@@ -1,45 +1,37 @@
 -- From the parts of a matrix to the matrix.
-use Rattle.std.proofs.Common.{◌≡◌, ℕ, List, Result, Ok, Err, IfErr, IfOk, IsErrAnd, OnOk, subst, sym}
+use Rattle.std.proofs.Common.{◌≡◌, ◌∙◌, ◌⊎◌, ℕ, List, Contains, Result, Ok, Err, IfErr, IfOk, IsErrAnd, OnOk, inl, inr, subst, sym}
 use Rattle.interval_set.specs.declared.set.Range.{Range}
 use Rattle.primitives.specs.declared.prim.Prim_.{Prim_}
 use Rattle.fw_rule.specs.declared.rule.Dump.{Dump}
-use Rattle.closure.specs.declared.sides.Side.{Side}
+use Rattle.fw_rule.specs.declared.side.Side.{Side}
+use Rattle.chain_graph.specs.Refusals.{IsChecked}
+use Rattle.simple_filter.specs.Closed.{IsSmall}
 use Rattle.simple_filter.specs.Hidden.{hidden}
 use Rattle.simple_filter.specs.declared.hiding.Hide.{Hide}
 use Rattle.simple_filter.specs.declared.refusal.Kind.{Kind}
 use Rattle.simple_filter.specs.declared.refusal.Refusal.{Refusal}
-use Rattle.ip_partition.specs.Groups.{HasFewBoundaries}
+use Rattle.ip_partition.specs.Boundaries.{HasFewBoundaries, HasManyBoundaries}
 use Rattle.service_packet.specs.declared.service.Service.{Service}
 use Rattle.service_matrix.specs.declared.table.Matrix.{Matrix}
-use Rattle.service_matrix.specs.AddressSets.{AreAddressSets}
-use Rattle.service_matrix.specs.Grouped.{GoesTo, RefusesGroups}
+use Rattle.service_matrix.specs.inner.AddressSets.{AreAddressSets}
 use Rattle.service_matrix.specs.Matrices.{IsMatrix}
-use Rattle.service_matrix.specs.Refusals.{HasFewSets, IsClosed, RefusesSets}
-use Rattle.service_matrix.specs.Services.{HoldsOfAllNames}
+use Rattle.service_matrix.specs.Refusals.{HasFewSets, RefusesSets}
+use Rattle.service_matrix.specs.Services.{GoesTo, HoldsOfAllNames}
 use Rattle.service_matrix.proofs.Groups.{boundaries}
 use Rattle.service_matrix.proofs.NameLaws.{all_names, settled_before}
 
 module _ {W : ℕ} (dump : Dump (Prim_ W)) (chain : ℕ) (side : Side) where
-  module _ (sets : List (List Range)) (are : AreAddressSets dump chain sets) (is_closed : IsClosed dump chain side) where
-    pub refused_groups : (e : Refusal) → RefusesGroups W sets e → RefusesSets dump chain side e
-    refused_groups (Refusal.Limit Kind.Atoms) h = (is_closed, (h.0, boundaries dump chain sets are h.0 h.1, h.2))
-    refused_groups (Refusal.Limit Kind.Depth) h = absurd h
-    refused_groups (Refusal.Limit Kind.Nodes) h = absurd h
-    refused_groups (Refusal.Limit Kind.Literals) h = absurd h
-    refused_groups (Refusal.Limit Kind.Boxes) h = absurd h
-    refused_groups (Refusal.Limit Kind.Rules) h = absurd h
-    refused_groups (Refusal.Limit Kind.Lines) h = absurd h
-    refused_groups (Refusal.Limit Kind.Regions) h = absurd h
-    refused_groups (Refusal.Limit Kind.Visits) h = absurd h
-    refused_groups (Refusal.Unsupported line name) h = absurd h
-    refused_groups (Refusal.Loop c) h = absurd h
-    refused_groups Refusal.Memory h = tt
-
-    pub refused_by : {M : Type 0} (r : Result M Refusal) (x : Refusal) → IsErrAnd r (λ e. e ≡ x) → RefusesGroups W sets x → IfErr r (RefusesSets dump chain side)
+  module _ (sets : List (List Range)) (are : AreAddressSets dump chain sets) (is_closed : IsChecked dump chain × IsSmall dump chain side) where
+    pub refused_by : {M : Type 0} (r : Result M Refusal) (x : Refusal) → IsErrAnd r (λ e. e ≡ x) →
+        (x ≡ Refusal.Memory) ⊎ ((x ≡ Refusal.Limit Kind.Atoms) × HasManyBoundaries W (Contains sets)) → IfErr r (RefusesSets dump chain side)
     refused_by (Ok m) x e h = absurd e
-    refused_by (Err y) x e h = subst (λ (z : Refusal). RefusesSets dump chain side z) (sym e) (refused_groups x h)
+    refused_by (Err y) x e h = elim h [
+      | inl memory ↦ subst (RefusesSets dump chain side) (sym (e ∙ memory)) tt
+      | inr many ↦ subst (RefusesSets dump chain side) (sym (e ∙ many.0))
+          (is_closed, ((many.1).0, boundaries dump chain sets are (many.1).0 (many.1).1, (many.1).2))
+    ]
 
-    pub few_sets : HasFewBoundaries W sets → HasFewSets dump chain side
+    pub few_sets : HasFewBoundaries W (Contains sets) → HasFewSets dump chain side
     few_sets h = (is_closed, (h.0, boundaries dump chain sets are h.0 h.1, h.2))
 
   -- of the dump with its names hidden

@@ -1,6 +1,8 @@
 -- No edge tells the addresses of a group apart.
 use Rattle.std.proofs.Common.{◌≡◌, ℕ, zero, suc, ◌^◌, ◌<◌, inl, inr, ◌↔◌, Bool, true, List, [], ◌∷◌, length, None, Some, slice_get, Contains, refl, subst, arith}
 use Rattle.std.specs.List.{AllByRecursion}
+use Rattle.basics.proofs.Lists.{contained, each_at, each_placed, in_bounds}
+use Rattle.basics.proofs.Truths.{same_truth}
 use Rattle.interval_set.specs.declared.set.Range.{Range}
 use Rattle.interval_set.specs.Numbers.{has, IsSet}
 use Rattle.ip_partition.specs.Boundaries.{HasBoundaries}
@@ -8,50 +10,35 @@ use Rattle.ip_partition.specs.Groups.{AreGroups, LieAlike}
 use Rattle.ip_partition.specs.Partition.{IsIn}
 use Rattle.primitives.specs.declared.prim.Packet.{Packet}
 use Rattle.primitives.specs.declared.prim.Prim_.{Prim_}
-use Rattle.primitives.specs.Holds.{IsValid}
+use Rattle.primitives.specs.Holds.{IsValid, holds_of}
 use Rattle.fw_rule.specs.declared.rule.Dump.{Dump}
 use Rattle.fw_rule.specs.declared.rule.Verdict.{Verdict}
-use Rattle.closure.specs.declared.sides.Side.{Side}
+use Rattle.fw_rule.specs.declared.side.Side.{Side}
 use Rattle.box_norm.specs.declared.cube.SimpleRule.{SimpleRule}
-use Rattle.simple_filter.specs.Closed.{Accepts, IsAccepted}
+use Rattle.fw_rule.specs.Answers.{IsAccepted}
+use Rattle.simple_filter.specs.Closed.{Accepts}
 use Rattle.service_packet.specs.declared.service.Service.{Service}
 use Rattle.service_packet.specs.Packets.{service_packet}
-use Rattle.service_matrix.specs.AddressSets.{AreAddressSets}
-use Rattle.service_matrix.specs.Classes.{IsGroup}
+use Rattle.service_matrix.specs.inner.AddressSets.{AreAddressSets}
+use Rattle.service_matrix.specs.inner.Classes.{IsGroup}
 use Rattle.service_matrix.specs.Laws.{PassAlike}
-use Rattle.service_matrix.specs.Refusals.{HasAddressBoundaries}
+use Rattle.service_matrix.specs.Refusals.{IsAddressSet}
 use Rattle.service_matrix.specs.Services.{accepts_service}
 use Rattle.service_matrix.proofs.Alike.{answered_alike}
-use Rattle.service_matrix.proofs.Joins.{each_at}
 use Rattle.service_matrix.proofs.OneMatrix.{set_below}
-use Rattle.service_matrix.proofs.Partitions.{same_bool}
-
-pub contained : {X : Type 0} (Q : X → Type 0) (xs : List X) (x : X) → AllByRecursion Q xs → Contains xs x → Q x
-contained Q [] x h (i, less, at) = absurd (omega (arith, less))
-contained Q (y ∷ xs) x h (zero, less, at) = subst Q at h.0
-contained Q (y ∷ xs) x h (suc i, less, at) = contained Q xs x h.1 (i, omega (arith, less), at)
-
-each_indexed : {X : Type 0} (Q : X → Type 0) (xs : List X) → ((i : ℕ) (x : X) → slice_get xs i ≡ Some x → Q x) → AllByRecursion Q xs
-each_indexed Q [] f = tt
-each_indexed Q (x ∷ xs) f = (f 0 x refl, each_indexed Q xs (λ i y e. f (suc i) y e))
 
 member : (groups : List (List Range)) (i : ℕ) (group : List Range) → i < length groups → slice_get groups i ≡ Some group → (n : ℕ) → IsIn groups i n → has group n ≡ true
 member groups i group h e n x = let same : x.0 ≡ group = cc (x.1, e) in subst (λ (z : List Range). has z n ≡ true) same x.2
 
-in_bounds : {X : Type 0} (xs : List X) (i : ℕ) (x : X) → slice_get xs i ≡ Some x → i < length xs
-in_bounds [] i x e = let f : None ≡ Some x = e in absurd (cc f)
-in_bounds (y ∷ xs) zero x e = omega arith
-in_bounds (y ∷ xs) (suc i) x e = let h = in_bounds xs i x e in omega (arith, h)
-
 module _ {W : ℕ} (dump : Dump (Prim_ W)) (chain : ℕ) where
   -- packets that pass alike are accepted alike
-  pub accepted_alike : (side : Side) (p q : Packet) → PassAlike dump chain p q → IsAccepted side dump chain p → IsAccepted side dump chain q
+  pub accepted_alike : (side : Side) (p q : Packet) → PassAlike dump chain p q → IsAccepted holds_of side dump chain p → IsAccepted holds_of side dump chain q
   accepted_alike Side.Upper p q alike h = ((answered_alike dump chain p q).may alike).0 h
   accepted_alike Side.Lower p q alike h = ((answered_alike dump chain p q).must alike).0 h
 
   module _ (sets : List (List Range)) (are : AreAddressSets dump chain sets) where
     -- the boundaries of the sets in reach are those of the listed ones
-    pub boundaries : (count : ℕ) → HasBoundaries W (Contains sets) count → HasAddressBoundaries dump chain count
+    pub boundaries : (count : ℕ) → HasBoundaries W (Contains sets) count → HasBoundaries W (IsAddressSet dump chain) count
     boundaries count h = record {
       numbers = h.numbers;
       ascend = h.ascend;
@@ -92,7 +79,7 @@ module _ {W : ℕ} (dump : Dump (Prim_ W)) (chain : ℕ) where
         abbrev F : ℕ → ℕ → Bool
         F = accepts_service rules policy service
 
-        pub means : (s d : ℕ) → s < 2 ^ W → d < 2 ^ W → (F s d ≡ true) ↔ IsAccepted side dump chain (service_packet service s d)
+        pub means : (s d : ℕ) → s < 2 ^ W → d < 2 ^ W → (F s d ≡ true) ↔ IsAccepted holds_of side dump chain (service_packet service s d)
         means s d x y = accepts (service_packet service s d) (valid s d x y)
 
         module _ (i : ℕ) (group : List Range) (e : slice_get groups i ≡ Some group) where
@@ -109,9 +96,9 @@ module _ {W : ℕ} (dump : Dump (Prim_ W)) (chain : ℕ) where
           same_to s d t x y z k = (means s t z (small t y)).1 (accepted_alike side (service_packet service s d) (service_packet service s t) (to_alike s d t (lie d t x y)) ((means s d z (small d x)).0 k))
 
         pub are_groups : AllByRecursion (IsGroup W F) groups
-        are_groups = each_indexed (IsGroup W F) groups (λ i group e. let inside = in_bounds groups i group e in let n = h.partition.some i inside in record {
+        are_groups = each_placed (IsGroup W F) groups (λ i group e. let inside = in_bounds groups i group e in let n = h.partition.some i inside in record {
           range = each_at (IsSet W) groups i group h.partition.sets e;
           some = (n.0, member groups i group inside e n.0 n.1);
-          from = λ s t d x y z. same_bool (F s d) (F t d) (same_from i group e s t d x y z) (same_from i group e t s d y x z);
-          to = λ s d t x y z. same_bool (F s d) (F s t) (same_to i group e s d t x y z) (same_to i group e s t d y x z);
+          from = λ s t d x y z. same_truth (F s d) (F t d) (same_from i group e s t d x y z) (same_from i group e t s d y x z);
+          to = λ s d t x y z. same_truth (F s d) (F s t) (same_to i group e s d t x y z) (same_to i group e s t d y x z);
         })

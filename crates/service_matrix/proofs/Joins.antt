@@ -3,13 +3,14 @@ use Rattle.std.proofs.Common.{◌≡◌, ℕ, zero, suc, ◌+◌, ◌-◌, ◌^�
 use Rattle.std.proofs.lemmas.Bool.Decides.{nat_tests}
 use Rattle.std.proofs.lemmas.Option.{get_or_from_slice_get}
 use Rattle.std.specs.List.{AllByRecursion}
+use Rattle.basics.proofs.Lists.{each_at, each_both, each_more, each_weaker}
 use Rattle.interval_set.specs.declared.set.Range.{Range}
 use Rattle.interval_set.specs.Numbers.{has, IsSet, IsLeast, IsWidth}
 use Rattle.interval_set.specs.Spelling.{set_or}
 use Rattle.interval_set.proofs.Spelling.{or_has, power, where_ascends}
 use Rattle.ip_partition.specs.Partition.{IsIn}
 use Rattle.service_matrix.specs.declared.classes.Class.{Class}
-use Rattle.service_matrix.specs.Classes.{Differ, HasSameAt, wider, Put, addresses_of, Distinct, Rising, InSome, Ordered, IsGroup, IsClass, AreClasses}
+use Rattle.service_matrix.specs.inner.Classes.{Differ, HasSameAt, wider, Put, addresses_of, Distinct, Rising, InSome, Ordered, IsGroup, IsClass, AreClasses}
 use Rattle.service_matrix.proofs.OneMatrix.{set_below}
 use Rattle.service_matrix.proofs.Partitions.{head_has, rest_ordered}
 
@@ -18,32 +19,8 @@ each_set Q [] i x h q = tt
 each_set Q (y ∷ xs) zero x h q = (q, h.1)
 each_set Q (y ∷ xs) (suc i) x h q = (h.0, each_set Q xs i x h.1 q)
 
-each_more : {X : Type 0} (Q : X → Type 0) (xs : List X) (x : X) → AllByRecursion Q xs → Q x → AllByRecursion Q (xs ++ x ∷ [])
-each_more Q [] x h q = (q, tt)
-each_more Q (y ∷ xs) x h q = (h.0, each_more Q xs x h.1 q)
-
-pub each_map : {X : Type 0} (Q R : X → Type 0) → ((x : X) → Q x → R x) → (xs : List X) → AllByRecursion Q xs → AllByRecursion R xs
-each_map Q R f [] h = tt
-each_map Q R f (x ∷ xs) h = (f x h.0, each_map Q R f xs h.1)
-
-pub each_at : {X : Type 0} (Q : X → Type 0) (xs : List X) (i : ℕ) (x : X) → AllByRecursion Q xs → slice_get xs i ≡ Some x → Q x
-each_at Q [] i x h e = let f : None ≡ Some x = e in absurd (cc f)
-each_at Q (y ∷ xs) zero x h e = let f : y ≡ x = cc (e) in subst Q f h.0
-each_at Q (y ∷ xs) (suc i) x h e = each_at Q xs i x h.1 e
-
--- two facts on each
-each_both : {X : Type 0} (Q R S : X → Type 0) → ((x : X) → Q x → R x → S x) → (xs : List X) → AllByRecursion Q xs → AllByRecursion R xs → AllByRecursion S xs
-each_both Q R S f [] h k = tt
-each_both Q R S f (x ∷ xs) h k = (f x h.0 k.0, each_both Q R S f xs h.1 k.1)
-
 pub drop_at : {X : Type 0} (xs : List X) (i : ℕ) (x : X) → i < length xs → x ≡ get_or xs i x → drop i xs ≡ x ∷ drop (i + 1) xs
 drop_at xs i x h e = rw (add-one, drop-cons xs i x) (ap (λ z. z ∷ drop (suc i) xs) (sym e))
-
-pub drop_past : {X : Type 0} (xs : List X) (i : ℕ) → length xs ≤ i → drop i xs ≡ []
-drop_past [] zero h = refl
-drop_past [] (suc i) h = refl
-drop_past (x ∷ xs) zero h = absurd (omega (arith, h))
-drop_past (x ∷ xs) (suc i) h = drop_past xs i (omega (arith, h))
 
 -- one more that was looked at
 pub each_passed : {X : Type 0} (Q : X → Type 0) (xs : List X) (i : ℕ) (x : X) → i < length xs → x ≡ get_or xs i x → Q x →
@@ -191,7 +168,7 @@ module _ {W : ℕ} (f : ℕ → ℕ → Bool) (groups : List (List Range)) where
     later class b n x = b n (suc x.0, x.1)
 
     still_before : AllByRecursion Before cs
-    still_before = each_map (λ (class : Class W). (n : ℕ) → InSome (group ∷ left) n → class.least < n) Before later cs h.before
+    still_before = each_weaker (λ (class : Class W). (n : ℕ) → InSome (group ∷ left) n → class.least < n) Before later cs h.before
 
     new_before : Before new
     new_before n x =
@@ -209,7 +186,7 @@ module _ {W : ℕ} (f : ℕ → ℕ → Bool) (groups : List (List Range)) where
       alike = (h.alike).1;
       each = each_more (IsClass f) cs new h.each inew;
       distinct = distinct_more new cs d h.distinct;
-      rising = rising_more new cs (each_map (λ (class : Class W). (n : ℕ) → InSome (group ∷ left) n → class.least < n) (λ (x : Class W). x.least < new.least)
+      rising = rising_more new cs (each_weaker (λ (class : Class W). (n : ℕ) → InSome (group ∷ left) n → class.least < n) (λ (x : Class W). x.least < new.least)
           (λ x b. b new.least (in_new new.least (inew.first).0)) cs h.before) h.rising;
       before = each_more Before cs new still_before new_before;
       all = λ n x. somewhere n (h.all n x);

@@ -8,14 +8,14 @@ use Rattle.box_norm.specs.declared.cube.SimpleRule.{SimpleRule}
 use Rattle.box_norm.specs.Cubes.{holds_cube}
 use Rattle.box_norm.specs.Normal.{first_of}
 use Rattle.fw_rule.specs.declared.rule.Verdict.{Verdict}
-use Rattle.closure.specs.Sides.{is_accept}
+use Rattle.fw_rule.specs.Answers.{is_accept}
 use Rattle.service_packet.specs.declared.service.Service.{Service}
 use Rattle.service_matrix.specs.declared.classes.Class.{Class}
 use Rattle.service_matrix.specs.declared.rows.Fixed.{Fixed}
-use Rattle.service_matrix.specs.Classes.{IsClass, line}
-use Rattle.service_matrix.specs.Passes.{StandAlike, accepts_at, far, near, packet_at}
+use Rattle.service_matrix.specs.inner.Classes.{IsClass, line}
+use Rattle.service_matrix.specs.inner.Passes.{StandAlike, accepts_at, far, near, packet_at}
 use Rattle.service_matrix.specs.Services.{accepts_service}
-use Rattle.service_matrix.proofs.Joins.{each_at}
+use Rattle.basics.proofs.Lists.{each_at}
 use Rattle.service_matrix.proofs.Passes.{by_addresses, fits_service}
 
 module _ {W : ℕ} (fixed : Fixed) (service : Service) (one other there : ℕ) where

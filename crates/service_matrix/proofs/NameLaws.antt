@@ -1,6 +1,8 @@
 -- What edges say of packets with any names of interfaces.
 use Rattle.std.proofs.Common.{◌≡◌, ℕ, zero, suc, Bool, true, false, ◌||◌, if◌then◌else◌, List, [], ◌∷◌, ◌++◌, map, None, Some, slice_get, Contains, refl, sym, ◌∙◌, ap, subst, arith}
 use Rattle.std.specs.List.{AllByRecursion}
+use Rattle.basics.proofs.Lists.{contained, each_append, map_contains, map_place}
+use Rattle.basics.proofs.Truths.{or_false}
 use Rattle.match_expr.specs.declared.expr.Expr.{Expr, map-Expr, roll-Expr}
 use Rattle.match_expr.specs.declared.expr.Expr.TheOpen.{Expr-F}
 use Rattle.match_expr.specs.declared.expr.Expr.TheFolds.{fold-roll-Expr, ind-Expr}
@@ -12,9 +14,11 @@ use Rattle.fw_rule.specs.declared.rule.Chain.{Chain}
 use Rattle.fw_rule.specs.declared.rule.Dump.{Dump}
 use Rattle.fw_rule.specs.declared.rule.Lit.{Lit}
 use Rattle.fw_rule.specs.declared.rule.Rule.{Rule}
-use Rattle.fw_rule.specs.Walk.{Settled, hidden_literal, hidden_rule, hidden_chain}
+use Rattle.fw_rule.specs.Mapping.{mapped_chain, mapped_rule}
+use Rattle.fw_rule.specs.Walk.{Settled, hidden_literal}
 use Rattle.fw_laws.proofs.Hiding as laws
-use Rattle.closure.specs.declared.sides.Side.{Side}
+use Rattle.fw_laws.proofs.Mapping.{settled_stays}
+use Rattle.fw_rule.specs.declared.side.Side.{Side}
 use Rattle.closure.specs.Sources.{IsKnown}
 use Rattle.simple_filter.specs.Hidden.{hidden, hides, in_level, is_name, some_of, stands_in}
 use Rattle.simple_filter.specs.declared.hiding.Hide.{Hide}
@@ -24,25 +28,7 @@ use Rattle.service_matrix.specs.declared.table.Matrix.{Matrix}
 use Rattle.service_matrix.specs.Laws.{PassAlike}
 use Rattle.service_matrix.specs.Matrices.{has_edge, IsMatrix}
 use Rattle.service_matrix.specs.Services.{Edge, HoldsOfAllNames, IsBetween}
-use Rattle.service_matrix.proofs.Groups.{accepted_alike, contained}
-
-or_false : (a b : Bool) → (a || b) ≡ false → (a ≡ false) × (b ≡ false)
-or_false true b e = absurd (grind (arith, e))
-or_false false b e = (refl, e)
-
-each_append : {X : Type 0} (Q : X → Type 0) (a b : List X) → AllByRecursion Q a → AllByRecursion Q b → AllByRecursion Q (a ++ b)
-each_append Q [] b x y = y
-each_append Q (e ∷ a) b x y = (x.0, each_append Q a b x.1 y)
-
-of_map : {X Y : Type 0} (g : X → Y) (xs : List X) (y : Y) → Contains (map g xs) y → (x : X) × Contains xs x × (g x ≡ y)
-of_map g [] y (i, less, at) = absurd (omega (arith, less))
-of_map g (x ∷ xs) y (zero, less, at) = (x, (zero, omega arith, refl), at)
-of_map g (x ∷ xs) y (suc i, less, at) = let t = of_map g xs y (i, omega (arith, less), at) in (t.0, (suc (t.1).0, let l = (t.1).1 in omega (arith, l), (t.1).2), t.2)
-
-map_place : {X Y : Type 0} (g : X → Y) (xs : List X) (i : ℕ) (y : Y) → slice_get (map g xs) i ≡ Some y → (x : X) × (slice_get xs i ≡ Some x) × (g x ≡ y)
-map_place g [] i y e = let f : None ≡ Some y = e in absurd (cc f)
-map_place g (x ∷ xs) zero y e = (x, refl, cc (e))
-map_place g (x ∷ xs) (suc i) y e = map_place g xs i y e
+use Rattle.service_matrix.proofs.Groups.{accepted_alike}
 
 -- where no such test stands in an expression, none of its tests is one
 module _ {P : Type 0} (is : P → Bool) where
@@ -90,11 +76,11 @@ module _ {W : ℕ} (dump : Dump (Prim_ W)) (chain : ℕ) where
   -- no test of a name is in reach
   no_name : (x : Prim_ W) → IsKnown Hidden chain x → is_name x ≡ false
   no_name x (c, rule, neg, expr, r, there, stood, stood_in) =
-      let a = map_place (hidden_chain (hides Hide.BothNames)) dump.chains c there.0 there.1 in
-      let in_rules : Contains (map (hidden_rule (hides Hide.BothNames)) (a.0).rules) rule = subst (λ (z : Chain (Prim_ W)). Contains z.rules rule) (sym a.2) there.2 in
-      let b = of_map (hidden_rule (hides Hide.BothNames)) (a.0).rules rule in_rules in
+      let a = map_place (mapped_chain (hidden_literal (hides Hide.BothNames))) dump.chains c there.0 there.1 in
+      let in_rules : Contains (map (mapped_rule (hidden_literal (hides Hide.BothNames))) (a.0).rules) rule = subst (λ (z : Chain (Prim_ W)). Contains z.rules rule) (sym a.2) there.2 in
+      let b = map_contains (mapped_rule (hidden_literal (hides Hide.BothNames))) (a.0).rules rule in_rules in
       let in_lits : Contains (map (hidden_literal (hides Hide.BothNames)) (b.0).lits) (Lit.Known neg expr) = subst (λ (z : Rule (Prim_ W)). Contains z.lits (Lit.Known neg expr)) (sym b.2) stood in
-      let l = of_map (hidden_literal (hides Hide.BothNames)) (b.0).lits (Lit.Known neg expr) in_lits in
+      let l = map_contains (hidden_literal (hides Hide.BothNames)) (b.0).lits (Lit.Known neg expr) in_lits in
       contained (λ (z : Prim_ W). is_name z ≡ false) (primitives_in expr) x (none_stands is_name expr (still_known (hides Hide.BothNames) l.0 neg expr l.2)) stood_in
 
   module _ (service : Service) (s d : ℕ) (p : Packet) (between : IsBetween service s d p) where
@@ -123,4 +109,4 @@ module _ {W : ℕ} (dump : Dump (Prim_ W)) (chain : ℕ) where
       (accepted_alike Hidden chain Side.Lower (service_packet service s d) p (names_alike_back service s d p between) ((is.edges_are i j s d x y).0 yes))
 
   pub settled_before : Settled Hidden chain → Settled dump chain
-  settled_before h = (laws.hidden_settled dump (hides Hide.BothNames) chain).1 h
+  settled_before h = (settled_stays dump (hidden_literal (hides Hide.BothNames)) chain).1 h

@@ -3,6 +3,8 @@ use Rattle.std.proofs.Common.{◌≡◌, ◌≢◌, ℕ, zero, suc, ◌-◌, ◌
 use Rattle.std.proofs.lemmas.Bool.Decides.{nat_tests}
 use Rattle.std.proofs.lemmas.Result.{IfOk-weaker}
 use Rattle.std.specs.List.{AllByRecursion}
+use Rattle.basics.proofs.Lists.{each_at, in_bounds}
+use Rattle.basics.proofs.Truths.{same_truth}
 use Rattle.interval_set.specs.declared.set.Range.{Range}
 use Rattle.interval_set.specs.Numbers.{has, IsSet}
 use Rattle.interval_set.proofs.Spelling.{has_above, power}
@@ -10,7 +12,7 @@ use Rattle.ip_partition.specs.Partition.{IsIn}
 use Rattle.service_matrix.specs.declared.table.Matrix.{Matrix}
 use Rattle.service_matrix.specs.Matrices.{has_edge, IsCoarsest, IsMatrix, IsSquare, IsUniform}
 use Rattle.service_matrix.specs.Laws.{HasOneMatrix}
-use Rattle.service_matrix.proofs.Partitions.{same_bool, of_partition, SameClasses, one_list}
+use Rattle.service_matrix.proofs.Partitions.{of_partition, SameClasses, one_list}
 
 pub set_below : (w : ℕ) (set : List Range) (n : ℕ) → IsSet w set → has set n ≡ true → n < 2 ^ w
 set_below w set n s h =
@@ -18,19 +20,9 @@ set_below w set n s h =
     let above : 2 ^ w - 1 < n → has set n ≡ false = λ l. has_above (2 ^ w - 1) 0 n set s.1 l in
     grind (arith, p, above, h)
 
-one_of : (Q : List Range → Type 0) (classes : List (List Range)) (i : ℕ) (class : List Range) → AllByRecursion Q classes → slice_get classes i ≡ Some class → Q class
-one_of Q [] i class h e = let f : None ≡ Some class = e in absurd (cc f)
-one_of Q (c ∷ cs) zero class h e = let f : c ≡ class = cc (e) in subst Q f h.0
-one_of Q (c ∷ cs) (suc i) class h e = one_of Q cs i class h.1 e
-
 -- what is in a class is an address
 pub in_below : (w : ℕ) (classes : List (List Range)) (i n : ℕ) → AllByRecursion (IsSet w) classes → IsIn classes i n → n < 2 ^ w
-in_below w classes i n h x = set_below w x.0 n (one_of (IsSet w) classes i x.0 h x.1) x.2
-
-slice_get_below : (classes : List (List Range)) (i : ℕ) (class : List Range) → slice_get classes i ≡ Some class → i < length classes
-slice_get_below [] i class e = let f : None ≡ Some class = e in absurd (cc f)
-slice_get_below (c ∷ cs) zero class e = omega arith
-slice_get_below (c ∷ cs) (suc i) class e = let h = slice_get_below cs i class e in omega (arith, h)
+in_below w classes i n h x = set_below w x.0 n (each_at (IsSet w) classes i x.0 h x.1) x.2
 
 -- lists of one length with the same items
 same_lists : {X : Type 0} (x : X) (xs ys : List X) → length xs ≡ length ys → ((i : ℕ) → i < length xs → unwrap_or (slice_get xs i) x ≡ unwrap_or (slice_get ys i) x) → xs ≡ ys
@@ -62,10 +54,10 @@ module _ {W : ℕ} (E : ℕ → ℕ → Type 0) (b : Matrix W) (mb : IsMatrix E 
     told k h =
         let d = mb.partition.some k h in
         let l = in_below W b.classes k d.0 mb.partition.sets d.1 in (
-          same_bool (has_edge b.edges i k) (has_edge b.edges j k)
+          same_truth (has_edge b.edges i k) (has_edge b.edges j k)
               (λ e. (mb.edges_are j k m d.0 y d.1).1 ((to d.0 l).0 ((mb.edges_are i k n d.0 x d.1).0 e)))
               (λ e. (mb.edges_are i k n d.0 x d.1).1 ((to d.0 l).1 ((mb.edges_are j k m d.0 y d.1).0 e))),
-          same_bool (has_edge b.edges k i) (has_edge b.edges k j)
+          same_truth (has_edge b.edges k i) (has_edge b.edges k j)
               (λ e. (mb.edges_are k j d.0 m d.1 y).1 ((from d.0 l).0 ((mb.edges_are k i d.0 n d.1 x).0 e)))
               (λ e. (mb.edges_are k i d.0 n d.1 x).1 ((from d.0 l).1 ((mb.edges_are k j d.0 m d.1 y).0 e))),
         )
@@ -77,7 +69,7 @@ module _ {W : ℕ} (E : ℕ → ℕ → Type 0) (b : Matrix W) (mb : IsMatrix E 
     one_class : (c : Bool) → (i == j) ≡ c → i ≡ j
     one_class true e = grind (arith, nat_tests, e)
     one_class false e =
-        let d = mb.differ i j (slice_get_below b.classes i x.0 x.1) (slice_get_below b.classes j y.0 y.1) (λ s. let t : i ≡ j = s in grind (arith, nat_tests, e, t)) in
+        let d = mb.differ i j (in_bounds b.classes i x.0 x.1) (in_bounds b.classes j y.0 y.1) (λ s. let t : i ≡ j = s in grind (arith, nat_tests, e, t)) in
         absurd (not_told d.0 d.1 d.2)
 
   pub is_coarsest : IsCoarsest W E b.classes
@@ -105,7 +97,7 @@ module _ {W : ℕ} (E : ℕ → ℕ → Type 0) (a b : Matrix W) (ma : IsMatrix 
       let d = ma.partition.some j k in
       let s' : IsIn b.classes i s.0 = subst (λ (z : List (List Range)). IsIn z i s.0) e s.1 in
       let d' : IsIn b.classes j d.0 = subst (λ (z : List (List Range)). IsIn z j d.0) e d.1 in
-      same_bool (has_edge a.edges i j) (has_edge b.edges i j)
+      same_truth (has_edge a.edges i j) (has_edge b.edges i j)
       (λ x. (mb.edges_are i j s.0 d.0 s' d').1 ((ma.edges_are i j s.0 d.0 s.1 d.1).0 x))
       (λ x. (ma.edges_are i j s.0 d.0 s.1 d.1).1 ((mb.edges_are i j s.0 d.0 s' d').0 x))
 

@@ -1,17 +1,12 @@
 -- Two partitions with the same classes are one list.
 use Rattle.std.proofs.Common.{◌≡◌, ℕ, zero, suc, ◌+◌, ◌<◌, Bool, true, false, List, [], ◌∷◌, None, Some, refl, sym, subst, arith}
+use Rattle.basics.proofs.Truths.{same_truth}
 use Rattle.interval_set.specs.declared.set.Range.{Range}
 use Rattle.interval_set.specs.Numbers.{has}
 use Rattle.interval_set.proofs.Same.{by_numbers}
 use Rattle.ip_partition.specs.Partition.{IsIn, IsPartition}
-use Rattle.service_matrix.specs.Classes.{Ordered}
+use Rattle.service_matrix.specs.inner.Classes.{Ordered}
 use Rattle.service_matrix.specs.Matrices.{AreTogether}
-
-pub same_bool : (x y : Bool) → (x ≡ true → y ≡ true) → (y ≡ true → x ≡ true) → x ≡ y
-same_bool true true f g = refl
-same_bool true false f g = sym (f refl)
-same_bool false true f g = g refl
-same_bool false false f g = refl
 
 pub of_partition : (w : ℕ) (classes : List (List Range)) → IsPartition w classes → Ordered w classes
 of_partition w classes p = record { sets = p.sets; some = p.some; apart = p.apart; ordered = p.ordered }
@@ -68,7 +63,7 @@ module _ (w : ℕ) (a b : List Range) (xs ys : List (List Range)) (oa : Ordered 
       head_has a xs n (subst (λ (z : ℕ). IsIn (a ∷ xs) z n) e t.2)
 
   pub heads : a ≡ b
-  heads = by_numbers w a b (oa.sets).0 (ob.sets).0 (λ n. same_bool (has a n) (has b n) (right_way n) (left_way n))
+  heads = by_numbers w a b (oa.sets).0 (ob.sets).0 (λ n. same_truth (has a n) (has b n) (right_way n) (left_way n))
 
   tail_at : (n m i : ℕ) → IsIn xs i n → IsIn xs i m → (j : ℕ) → IsIn (b ∷ ys) j n → IsIn (b ∷ ys) j m → AreTogether ys n m
   tail_at n m i x y zero u v =

@@ -9,7 +9,7 @@ use Rattle.box_norm.specs.declared.cube.SimpleRule.{SimpleRule}
 use Rattle.box_norm.specs.Cubes.{holds_cube}
 use Rattle.box_norm.specs.Normal.{first_of}
 use Rattle.fw_rule.specs.declared.rule.Verdict.{Verdict}
-use Rattle.closure.specs.Sides.{is_accept}
+use Rattle.fw_rule.specs.Answers.{is_accept}
 use Rattle.primitives.specs.Holds.{has_bit}
 use Rattle.name_set.specs.Names.{has_name}
 use Rattle.service_packet.specs.declared.service.Service.{Service}
@@ -17,7 +17,7 @@ use Rattle.service_packet.specs.Packets.{opening_flags, service_packet}
 use Rattle.service_matrix.specs.declared.rows.Fixed.{Fixed}
 use Rattle.service_matrix.specs.declared.rows.Part.{Part}
 use Rattle.service_matrix.proofs.Joins.{drop_at}
-use Rattle.service_matrix.specs.Passes.{AnswerAlike, Tells, packet_at, near, far}
+use Rattle.service_matrix.specs.inner.Passes.{AnswerAlike, Tells, packet_at, near, far}
 use Rattle.service_matrix.specs.Services.{accepts_service}
 use Rattle.primitives.specs.declared.prim.Packet.{Packet}
 

@@ -16,7 +16,7 @@ use Rattle.chain_graph.specs.Marks.{AreRulesOf}
 use Rattle.primitives.specs.declared.prim.Prim_.{Prim_}
 use Rattle.closure.specs.Sources.{IsKnown}
 use Rattle.service_matrix.specs.Refusals.{IsAddressSet}
-use Rattle.service_matrix.specs.AddressSets.{prim_sets, level_sets, expr_sets, literal_sets, rule_sets, all_sets, IsSetBefore, AreAddressSets}
+use Rattle.service_matrix.specs.inner.AddressSets.{prim_sets, level_sets, expr_sets, literal_sets, rule_sets, all_sets, IsSetBefore, AreAddressSets}
 
 more : {X : Type 0} (x y : X) (xs : List X) → Contains xs y → Contains (x ∷ xs) y
 more x y xs c = (suc c.0, omega (arith, c.1), c.2)

@@ -3,15 +3,16 @@ use Rattle.std.proofs.Common.{◌≡◌, ◌≢◌, ℕ, zero, suc, ◌^◌, ◌
 use Rattle.std.proofs.lemmas.Bool.Decides.{nat_tests}
 use Rattle.std.proofs.lemmas.List.{length-map}
 use Rattle.std.specs.List.{AllByRecursion}
+use Rattle.basics.proofs.Lists.{each_at, each_map}
 use Rattle.interval_set.specs.declared.set.Range.{Range}
 use Rattle.interval_set.specs.Numbers.{has, IsSet}
 use Rattle.ip_partition.specs.Partition.{IsIn, IsPartition}
 use Rattle.service_matrix.specs.declared.classes.Class.{Class}
 use Rattle.service_matrix.specs.declared.table.Matrix.{Matrix}
-use Rattle.service_matrix.specs.Classes.{Differ, addresses_of, edge_row, edges_of, Distinct, Rising, InSome, IsClass, AreClasses}
+use Rattle.service_matrix.specs.inner.Classes.{Differ, addresses_of, edge_row, edges_of, Distinct, Rising, InSome, IsClass, AreClasses}
 use Rattle.service_matrix.specs.Matrices.{has_edge, IsSquare, IsMatrix}
 use Rattle.service_matrix.proofs.OneMatrix.{set_below}
-use Rattle.service_matrix.proofs.Joins.{each_at, below_true, under_test}
+use Rattle.service_matrix.proofs.Joins.{below_true, under_test}
 
 -- the first number below the bound that fails a test, if one does
 find_false : (n : ℕ) (p : ℕ → Bool) → ((k : ℕ) × (k < n) × (p k ≡ false)) ⊎ ((k : ℕ) → k < n → p k ≡ true)
@@ -59,10 +60,6 @@ map_at : {X Y : Type 0} (g : X → Y) (y : Y) (xs : List X) (i : ℕ) (x : X) �
 map_at g y [] i x e = let f : None ≡ Some x = e in absurd (cc f)
 map_at g y (z ∷ xs) zero x e = let f : z ≡ x = cc (e) in ap g f
 map_at g y (z ∷ xs) (suc i) x e = map_at g y xs i x e
-
-map_each : {X Y : Type 0} (g : X → Y) (Q : Y → Type 0) (xs : List X) → AllByRecursion (λ (x : X). Q (g x)) xs → AllByRecursion Q (map g xs)
-map_each g Q [] h = tt
-map_each g Q (x ∷ xs) h = (h.0, map_each g Q xs h.1)
 
 each_here : {X : Type 0} (Q : X → Type 0) (xs : List X) → ((x : X) → Q x) → AllByRecursion Q xs
 each_here Q [] f = tt
@@ -118,7 +115,7 @@ module _ {W : ℕ} where
 
     partition : IsPartition W (addresses_of cs)
     partition = record {
-      sets = map_each (λ (c : Class W). c.addresses) (IsSet W) cs (each_of cs h.each);
+      sets = each_map (IsSet W) (λ (c : Class W). c.addresses) cs (each_of cs h.each);
       some = λ i l. let a = place_of cs i l in ((a.0).least, in_place cs i (a.0).least a.0 a.1 ((class_at i a.0 a.1).first).0);
       covers = covered;
       apart = λ i j n x y.
@@ -164,7 +161,7 @@ module _ {W : ℕ} where
     square : IsSquare (length (addresses_of cs)) (edges_of cs)
     square = (
       length-map cs (λ (c : Class W). edge_row c cs) ∙ sym (length-map cs (λ (c : Class W). c.addresses)),
-      map_each (λ (c : Class W). edge_row c cs) (λ (row : List Bool). length row ≡ length (addresses_of cs)) cs
+      each_map (λ (row : List Bool). length row ≡ length (addresses_of cs)) (λ (c : Class W). edge_row c cs) cs
           (each_here (λ (c : Class W). length (edge_row c cs) ≡ length (addresses_of cs)) cs (λ c. length-map cs (λ (x : Class W). has c.row x.least) ∙ sym (length-map cs (λ (x : Class W). x.addresses)))),
     )
 

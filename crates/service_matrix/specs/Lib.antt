@@ -1,8 +1,5 @@
-pub mod Matrices
-pub mod Services
-pub mod Refusals
 pub mod Laws
-pub mod Passes
-pub mod Classes
-pub mod AddressSets
-pub mod Grouped
+pub mod Matrices
+pub mod Refusals
+pub mod Services
+pub mod inner

@@ -2,16 +2,15 @@
 use Rattle.std.specs.Prelude.{ℕ, ◌≡◌, ◌<◌, ◌^◌, Bool, true, false, List, unwrap_or}
 use Rattle.primitives.specs.declared.prim.Packet.{Packet}
 use Rattle.primitives.specs.declared.prim.Prim_.{Prim_}
-use Rattle.primitives.specs.Holds.{IsValid}
+use Rattle.primitives.specs.Holds.{IsValid, holds_of}
 use Rattle.interval_set.specs.declared.set.Range.{Range}
 use Rattle.interval_set.specs.Numbers.{has}
 use Rattle.fw_rule.specs.declared.rule.Dump.{Dump}
 use Rattle.fw_rule.specs.declared.rule.Verdict.{Verdict}
-use Rattle.closure.specs.declared.sides.Side.{Side}
-use Rattle.closure.specs.Sides.{is_accept}
+use Rattle.fw_rule.specs.declared.side.Side.{Side}
+use Rattle.fw_rule.specs.Answers.{IsAccepted, May, Must, is_accept}
 use Rattle.box_norm.specs.declared.cube.SimpleRule.{SimpleRule}
 use Rattle.box_norm.specs.Normal.{first_of}
-use Rattle.simple_filter.specs.Closed.{IsAccepted}
 use Rattle.simple_filter.specs.Hidden.{hidden}
 use Rattle.simple_filter.specs.declared.hiding.Hide.{Hide}
 use Rattle.ip_partition.specs.Partition.{IsIn}
@@ -25,15 +24,21 @@ abbrev pub IsBetween : Service → ℕ → ℕ → Packet → Type 0
 IsBetween service s d p = p ≡ record (service_packet service s d) { in_name = p.in_name; out_name = p.out_name }
 
 module _ {W : ℕ} where
-  -- with the tests of interface names hidden, the service's packet from `s` to `d` may be accepted (Upper), or must be (Lower)
-  abbrev pub Edge : Side → Dump (Prim_ W) → ℕ → Service → ℕ → ℕ → Type 0
-  Edge side dump chain service s d = IsAccepted side (hidden Hide.BothNames dump) chain (service_packet service s d)
+  -- the service's packet from `s` to `d` may be accepted (Upper), or must be (Lower)
+  abbrev pub GoesTo : Side → Dump (Prim_ W) → ℕ → Service → ℕ → ℕ → Type 0
+  GoesTo side dump chain service s d = IsAccepted holds_of side dump chain (service_packet service s d)
 
-  -- What an edge says of the dump with nothing hidden, whatever the names of the interfaces: without an edge of an upper matrix the
-  -- service's packet may not be accepted, and with an edge of a lower one it must be.
+  -- the same with the tests of interface names hidden
+  abbrev pub Edge : Side → Dump (Prim_ W) → ℕ → Service → ℕ → ℕ → Type 0
+  Edge side dump = GoesTo side (hidden Hide.BothNames dump)
+
+  -- What an edge says of the dump with nothing hidden, whatever the names of the interfaces: without an edge of an upper
+  -- matrix the service's packet may not be accepted, and with an edge of a lower one it must be.
   abbrev pub HoldsOfNames : Side → Dump (Prim_ W) → ℕ → Service → ℕ → ℕ → Bool → Type 0
-  HoldsOfNames Side.Upper dump chain service s d edge = edge ≡ false → (p : Packet) → IsValid W p → IsBetween service s d p → IsAccepted Side.Upper dump chain p → ⊥
-  HoldsOfNames Side.Lower dump chain service s d edge = edge ≡ true → (p : Packet) → IsValid W p → IsBetween service s d p → IsAccepted Side.Lower dump chain p
+  HoldsOfNames Side.Upper dump chain service s d edge = edge ≡ false → (p : Packet) → IsValid W p → IsBetween service s d p →
+      May holds_of dump chain p → ⊥
+  HoldsOfNames Side.Lower dump chain service s d edge = edge ≡ true → (p : Packet) → IsValid W p → IsBetween service s d p →
+      Must holds_of dump chain p
 
   -- so does each edge of a matrix
   abbrev pub HoldsOfAllNames : Side → Dump (Prim_ W) → ℕ → Service → Matrix W → Type 0

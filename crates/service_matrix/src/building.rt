@@ -1,22 +1,21 @@
-ghost use Rattle.std.specs.Prelude.{ℕ, ◌<◌, ◌^◌, IfErr, IfOk, OnOk};
+ghost use Rattle.std.specs.Prelude.{ℕ, ◌≡◌, ◌<◌, ◌^◌, ◌⊎◌, Contains, IfErr, IfOk, OnOk};
 ghost use Rattle.interval_set.specs.Numbers.{IsWidth};
 ghost use Rattle.fw_rule.specs.Calls.{HasRoom};
 ghost use Rattle.chain_graph.specs.Paths.{CallsNameChains};
 ghost use Rattle.closure.specs.Checked.{HasPolicy};
 ghost use Rattle.primitives.specs.Holds.{IsValid};
 ghost use Rattle.service_packet.specs.Packets.{service_packet};
-ghost use Rattle.ip_partition.specs.Groups.{AreGroups, HasFewBoundaries};
-ghost use Rattle.service_matrix.specs.Grouped.{GoesTo, RefusesGroups};
+ghost use Rattle.ip_partition.specs.Boundaries.{HasFewBoundaries, HasManyBoundaries};
+ghost use Rattle.ip_partition.specs.Groups.{AreGroups};
 ghost use Rattle.service_matrix.specs.Matrices.{IsCoarsest, IsMatrix};
 ghost use Rattle.service_matrix.specs.Refusals.{HasFewAtoms, HasFewSets, RefusesMatrix, RefusesSets};
-ghost use Rattle.service_matrix.specs.Services.{Edge, HoldsOfAllNames};
+ghost use Rattle.service_matrix.specs.Services.{Edge, GoesTo, HoldsOfAllNames};
 
 use crate::classes::{addresses, edges};
 use crate::joining::joined;
 use crate::sets::address_sets;
 use crate::table::Matrix;
-use closure::{Side, policy_of};
-use fw_rule::Dump;
+use fw_rule::{Dump, Side, settled_policy};
 use interval_set::Set;
 use ip_partition::{GroupFault, groups};
 use match_expr::List;
@@ -36,8 +35,8 @@ fn packets_are_valid(alloc: Global, service: &Service)
 fn grouped<const W: u32>(alloc: Global, sets: &[Set<W>]) -> Result<List<Set<W>>, Refusal>
     requires { IsWidth W }
     ensures groups { IfOk result (λ groups. AreGroups W sets.now groups) }
-    ensures few { OnOk result (HasFewBoundaries W sets.now) }
-    ensures refused { IfErr result (RefusesGroups W sets.now) }
+    ensures few { OnOk result (HasFewBoundaries W (Contains sets.now)) }
+    ensures refused { IfErr result (λ r. (r ≡ Refusal.Memory) ⊎ ((r ≡ Refusal.Limit Kind.Atoms) × HasManyBoundaries W (Contains sets.now))) }
 {
     match groups(alloc, sets) {
         Ok(groups) => Ok(groups),
@@ -65,7 +64,7 @@ fn plain_matrix<const W: u32>(
     let rules = closed(alloc, dump, chain, side)?;
     let sets = address_sets(alloc, dump, chain)?;
     let groups = grouped(alloc, sets.as_slice())?;
-    let policy = policy_of(dump, chain);
+    let policy = settled_policy(dump, chain);
     packets_are_valid(alloc, service);
     let classes = joined(alloc, groups.as_slice(), rules.as_slice(), policy, service)?;
     Ok(Matrix {
@@ -74,14 +73,14 @@ fn plain_matrix<const W: u32>(
     })
 }
 
-/// The matrix of a service in a chain: an edge goes from one class to another exactly where, with the tests of interface names hidden,
-/// the service's packet from each address of the one to each of the other may (Upper) or must (Lower) be accepted. Every other partition
-/// with this property is finer. The chain has a policy. W is 32 or 128.
+/// The matrix of a service in a chain: an edge goes from one class to another exactly where, with the tests of interface
+/// names hidden, the service's packet from each address of the one to each of the other may (Upper) or must (Lower) be
+/// accepted. Every other partition with this property is finer. The chain has a policy. W is 32 or 128.
 ///
 /// # Errors
 ///
-/// Those of `closed` for the dump with the tests of interface names hidden. Else `Limit(Atoms)` exactly where the sets of addresses in
-/// known literals of rules in reach have more than 4,096 distinct boundaries. `Memory` where memory runs out.
+/// Those of `closed` for the dump with the tests of interface names hidden. Else `Limit(Atoms)` exactly where the sets of
+/// addresses in known literals of rules in reach have more than 4,096 distinct boundaries. `Memory` where memory runs out.
 pub fn matrix<const W: u32>(
     alloc: Global,
     dump: &Dump<Prim_<W>>,

@@ -1,7 +1,7 @@
 ghost use Rattle.std.specs.Prelude.{ℕ, ◌≡◌, ◌<◌, length, map, IfOk, OnOk, MatchOption};
 ghost use Rattle.std.specs.List.{AllByRecursion};
 ghost use Rattle.interval_set.specs.Numbers.{has};
-ghost use Rattle.service_matrix.specs.Classes.{Differ, HasSameAt, Put, addresses_of, edge_row, edges_of};
+ghost use Rattle.service_matrix.specs.inner.Classes.{Differ, HasSameAt, Put, addresses_of, edge_row, edges_of};
 
 use interval_set::Set;
 use match_expr::List;

@@ -1,8 +1,8 @@
 ghost use Rattle.std.specs.Prelude.{ℕ, ◌≡◌, ◌^◌, ◌&&◌, nat_lt, [], IfOk};
 ghost use Rattle.std.specs.List.{AllByRecursion};
 ghost use Rattle.interval_set.specs.Numbers.{IsWidth, has};
-ghost use Rattle.service_matrix.specs.Classes.{AreClasses, IsClass, IsGroup, Ordered, line};
-ghost use Rattle.service_matrix.specs.Passes.{accepts_at};
+ghost use Rattle.service_matrix.specs.inner.Classes.{AreClasses, IsClass, IsGroup, Ordered, line};
+ghost use Rattle.service_matrix.specs.inner.Passes.{accepts_at};
 ghost use Rattle.service_matrix.specs.Services.{accepts_service};
 
 use crate::classes::{Class, put};

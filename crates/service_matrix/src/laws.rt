@@ -1,8 +1,7 @@
 ghost use Rattle.service_matrix.specs.Laws.{AreAnsweredAlike, HasOneMatrix};
 ghost use Rattle.service_matrix.specs.Services.{Edge};
 
-use closure::Side;
-use fw_rule::Dump;
+use fw_rule::{Dump, Side};
 use primitives::{Packet, Prim_};
 use service_packet::Service;
 

@@ -8,8 +8,6 @@ mod laws;
 mod rows;
 mod sets;
 mod table;
-#[cfg(test)]
-mod tests;
 
 pub use building::matrix;
 pub use laws::{alike_packets, one_matrix};

@@ -1,9 +1,9 @@
 ghost use Rattle.std.specs.Prelude.{ℕ, ◌≡◌, ◌<◌, ◌^◌, ◌&&◌, ◌||◌, nat_lt, false, IfOk, IsTrue, MatchOption};
 ghost use Rattle.interval_set.specs.Numbers.{IsWidth, has};
 ghost use Rattle.box_norm.specs.Cubes.{holds_cube};
-ghost use Rattle.closure.specs.Sides.{is_accept};
-ghost use Rattle.service_matrix.specs.Passes as spec;
-ghost use Rattle.service_matrix.specs.Passes.{AnswerAlike, StandAlike, Tells, accepts_at};
+ghost use Rattle.fw_rule.specs.Answers.{is_accept};
+ghost use Rattle.service_matrix.specs.inner.Passes as spec;
+ghost use Rattle.service_matrix.specs.inner.Passes.{AnswerAlike, StandAlike, Tells, accepts_at};
 ghost use Rattle.service_packet.specs.Packets.{service_packet};
 ghost use Rattle.service_matrix.specs.Services.{IsColumn, IsRow};
 

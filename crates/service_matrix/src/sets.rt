@@ -1,6 +1,6 @@
 ghost use Rattle.std.specs.Prelude.{◌≡◌, ◌++◌, ◌<◌, ◌^◌, length, IfOk, OnOk};
 ghost use Rattle.chain_graph.specs.Paths.{CallsNameChains};
-ghost use Rattle.service_matrix.specs.AddressSets.{AreAddressSets, all_sets, expr_sets, literal_sets, prim_sets, rule_sets};
+ghost use Rattle.service_matrix.specs.inner.AddressSets.{AreAddressSets, all_sets, expr_sets, literal_sets, prim_sets, rule_sets};
 
 use chain_graph::{reachable, rules_of};
 use fw_rule::{Dump, Lit, Rule};

@@ -1,6 +1,7 @@
 -- An All cuts the cubes as its parts do in turn.
 use Rattle.std.proofs.Common.{◌≡◌, ℕ, ◌<◌, ◌≤◌, nat_lt, Bool, true, false, if◌then◌else◌, List, [], ◌∷◌, length, max, Option, None, Some, refl, sym, ◌∙◌, ap, subst, map, arith}
 use Rattle.std.proofs.lemmas.Bool.Decides.{nat_tests}
+use Rattle.limits.specs.declared.TheConstants.{MOST_CUBES}
 use Rattle.match_expr.specs.declared.expr.Expr.{Expr, map-Expr}
 use Rattle.match_expr.specs.declared.expr.Expr.TheOpen.{Expr-F}
 use Rattle.match_expr.specs.declared.expr.Expr.TheFolds.{fold-roll-Expr, ind-Expr}
@@ -10,7 +11,7 @@ use Rattle.box_norm.specs.declared.cube.Cube.{Cube}
 use Rattle.box_norm.specs.Cuts.{Work, Cuts, keep_all, omit_all, cuts_step, cuts_by}
 use Rattle.box_norm.specs.Normal.{whole_of}
 use Rattle.box_norm.proofs.CutLaws.{cuts-All}
-use Rattle.simple_filter.specs.Collected.{within_limit, cut_by, whole_cubes}
+use Rattle.simple_filter.specs.inner.Collected.{within_limit, cut_by, whole_cubes}
 
 module _ (W : ℕ) where
   -- the list that a cut returns is one of those on its way
@@ -51,46 +52,46 @@ module _ (W : ℕ) where
   InTurn es l = within_limit (keep_all (map (cuts_by {W = W}) es) l) ≡ cut_all (cut_by {W = W}) (Some l) es
 
   -- where the list isn't too long
-  short : (work : Work W) → work.longest ≤ 16384 → within_limit work ≡ Some work.list
-  short work h = by (nat_lt 16384 work.longest) refl
+  short : (work : Work W) → work.longest ≤ MOST_CUBES → within_limit work ≡ Some work.list
+  short work h = by (nat_lt MOST_CUBES work.longest) refl
     where
-      by : (b : Bool) → nat_lt 16384 work.longest ≡ b → (if b then None else Some work.list) ≡ Some work.list
+      by : (b : Bool) → nat_lt MOST_CUBES work.longest ≡ b → (if b then None else Some work.list) ≡ Some work.list
       by true e = absurd (grind (arith, nat_tests, e, h))
       by false e = refl
 
-  over : (work : Work W) → 16384 < work.longest → within_limit work ≡ None
-  over work h = by (nat_lt 16384 work.longest) refl
+  over : (work : Work W) → MOST_CUBES < work.longest → within_limit work ≡ None
+  over work h = by (nat_lt MOST_CUBES work.longest) refl
     where
-      by : (b : Bool) → nat_lt 16384 work.longest ≡ b → (if b then None else Some work.list) ≡ None
+      by : (b : Bool) → nat_lt MOST_CUBES work.longest ≡ b → (if b then None else Some work.list) ≡ None
       by true e = refl
       by false e = absurd (grind (arith, nat_tests, e, h))
 
   -- the two sums are as one where the first part keeps to the limit
-  same_limit : (list : List (Cube W)) (a b : ℕ) → a ≤ 16384 → within_limit (record { list = list; longest = max a b }) ≡ within_limit (record { list = list; longest = b })
-  same_limit list a b h = by (nat_lt 16384 b) refl
+  same_limit : (list : List (Cube W)) (a b : ℕ) → a ≤ MOST_CUBES → within_limit (record { list = list; longest = max a b }) ≡ within_limit (record { list = list; longest = b })
+  same_limit list a b h = by (nat_lt MOST_CUBES b) refl
     where
-      by : (t : Bool) → nat_lt 16384 b ≡ t → within_limit (record { list = list; longest = max a b }) ≡ within_limit (record { list = list; longest = b })
+      by : (t : Bool) → nat_lt MOST_CUBES b ≡ t → within_limit (record { list = list; longest = max a b }) ≡ within_limit (record { list = list; longest = b })
       by true e = over (record { list = list; longest = max a b }) (grind (arith, nat_tests, e)) ∙ sym (over (record { list = list; longest = b }) (grind (arith, nat_tests, e)))
       by false e = short (record { list = list; longest = max a b }) (grind (arith, nat_tests, e, h)) ∙ sym (short (record { list = list; longest = b }) (grind (arith, nat_tests, e)))
 
-  turned : (es : List E) (first : Work W) → length first.list ≤ first.longest → (length first.list ≤ 16384 → InTurn es first.list) → (t : Bool) → nat_lt 16384 first.longest ≡ t →
+  turned : (es : List E) (first : Work W) → length first.list ≤ first.longest → (length first.list ≤ MOST_CUBES → InTurn es first.list) → (t : Bool) → nat_lt MOST_CUBES first.longest ≡ t →
       within_limit (record {
         list = (keep_all (map (cuts_by {W = W}) es) first.list).list;
         longest = max first.longest (keep_all (map (cuts_by {W = W}) es) first.list).longest;
       }) ≡ cut_all (cut_by {W = W}) (within_limit first) es
   turned es first long later true t =
-      let many : 16384 < first.longest = grind (arith, nat_tests, t) in
+      let many : MOST_CUBES < first.longest = grind (arith, nat_tests, t) in
       over (record { list = (keep_all (map (cuts_by {W = W}) es) first.list).list; longest = max first.longest (keep_all (map (cuts_by {W = W}) es) first.list).longest }) (grind (arith, many))
       ∙ sym (none_in_turn es) ∙ ap (λ (z : Option (List (Cube W))). cut_all (cut_by {W = W}) z es) (sym (over first many))
   turned es first long later false t =
-      let small : first.longest ≤ 16384 = grind (arith, nat_tests, t) in
+      let small : first.longest ≤ MOST_CUBES = grind (arith, nat_tests, t) in
       same_limit (keep_all (map (cuts_by {W = W}) es) first.list).list first.longest (keep_all (map (cuts_by {W = W}) es) first.list).longest small
       ∙ later (omega (arith, small, long))
       ∙ ap (λ (z : Option (List (Cube W))). cut_all (cut_by {W = W}) z es) (sym (short first small))
 
-  in_turn : (es : List E) (l : List (Cube W)) → length l ≤ 16384 → InTurn es l
+  in_turn : (es : List E) (l : List (Cube W)) → length l ≤ MOST_CUBES → InTurn es l
   in_turn [] l h = short (record { list = l; longest = length l }) h
-  in_turn (e ∷ es) l h = turned es ((cuts_by {W = W} e).keep l) ((cuts_long e).keep l) (in_turn es ((cuts_by {W = W} e).keep l).list) (nat_lt 16384 ((cuts_by {W = W} e).keep l).longest) refl
+  in_turn (e ∷ es) l h = turned es ((cuts_by {W = W} e).keep l) ((cuts_long e).keep l) (in_turn es ((cuts_by {W = W} e).keep l).list) (nat_lt MOST_CUBES ((cuts_by {W = W} e).keep l).longest) refl
 
   pub by_parts : IsCutByParts (cut_by {W = W}) (whole_cubes W)
   by_parts es = ap (λ (c : Cuts W). within_limit (c.keep (whole_of W ∷ []))) (cuts-All es) ∙ in_turn es (whole_of W ∷ []) (omega arith)

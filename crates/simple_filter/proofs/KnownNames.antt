@@ -1,6 +1,7 @@
 -- The patterns of the simple rules stand in known literals of the dump.
-use Rattle.std.proofs.Common.{◌≡◌, ℕ, zero, suc, List, [], ◌∷◌, ◌++◌, map, Contains, sym, subst, arith, inl, inr, ◌⊎◌}
+use Rattle.std.proofs.Common.{◌≡◌, ℕ, List, [], ◌∷◌, map, Contains, sym, subst, inl, inr, ◌⊎◌}
 use Rattle.std.specs.List.{AllByRecursion}
+use Rattle.basics.proofs.Lists.{contained, each_append, each_contained, each_left, each_right, each_weaker}
 use Rattle.match_expr.specs.declared.expr.Expr.{Expr, map-Expr, roll-Expr}
 use Rattle.match_expr.specs.declared.expr.Expr.TheOpen.{Expr-F}
 use Rattle.match_expr.specs.declared.expr.Expr.TheFolds.{fold-roll-Expr, ind-Expr}
@@ -11,27 +12,12 @@ use Rattle.primitives.specs.declared.prim.Prim_.{Prim_}
 use Rattle.fw_rule.specs.declared.rule.Dump.{Dump}
 use Rattle.match_expr.specs.Primitives.{joined, listed, primitives_in}
 use Rattle.closure.specs.Sources.{IsKnown, AreKnown}
-use Rattle.closure.proofs.SourceLemmas.{each_contained}
 use Rattle.box_norm.specs.declared.cube.Cube.{Cube}
 use Rattle.box_norm.specs.declared.cube.SimpleRule.{SimpleRule}
 use Rattle.box_norm.specs.Normal.{normal_of}
 use Rattle.box_norm.specs.Regular.{patterns_in, patterns_step, patterns_of, rule_patterns, IsOf, NamesAreOf, EachCube}
-use Rattle.box_norm.proofs.RegularLaws.{all_append}
-use Rattle.box_norm.proofs.StayLaws.{all_map, normal_patterns}
+use Rattle.box_norm.proofs.StayLaws.{normal_patterns}
 use Rattle.simple_filter.specs.Closed.{IsKnownPattern, NamesKnown, NamesAreKnown}
-
-all_left : {X : Type 0} (Q : X → Type 0) (a b : List X) → AllByRecursion Q (a ++ b) → AllByRecursion Q a
-all_left Q [] b h = tt
-all_left Q (x ∷ a) b h = (h.0, all_left Q a b h.1)
-
-all_right : {X : Type 0} (Q : X → Type 0) (a b : List X) → AllByRecursion Q (a ++ b) → AllByRecursion Q b
-all_right Q [] b h = h
-all_right Q (x ∷ a) b h = all_right Q a b h.1
-
-contained : {X : Type 0} (Q : X → Type 0) (xs : List X) (x : X) → AllByRecursion Q xs → Contains xs x → Q x
-contained Q [] x h (i, less, at) = absurd (grind (arith, less))
-contained Q (y ∷ xs) x h (zero, less, at) = subst Q at h.0
-contained Q (y ∷ xs) x h (suc i, less, at) = contained Q xs x h.1 (i, omega (arith, less), at)
 
 module _ {W : ℕ} (dump : Dump (Prim_ W)) (chain : ℕ) where
   abbrev E : Type 0
@@ -47,9 +33,9 @@ module _ {W : ℕ} (dump : Dump (Prim_ W)) (chain : ℕ) where
       AllByRecursion Known (joined (map (patterns_of {W = W}) (map (λ e. e.0) es)))
   every [] h = tt
   every (e ∷ es) h =
-      all_append Known (patterns_of {W = W} e.0) (joined (map (patterns_of {W = W}) (map (λ e. e.0) es)))
-      (e.1 (all_left (IsKnown dump chain) (primitives_in e.0) (joined (map primitives_in (map (λ e. e.0) es))) h))
-      (every es (all_right (IsKnown dump chain) (primitives_in e.0) (joined (map primitives_in (map (λ e. e.0) es))) h))
+      each_append Known (patterns_of {W = W} e.0) (joined (map (patterns_of {W = W}) (map (λ e. e.0) es)))
+      (e.1 (each_left (IsKnown dump chain) (primitives_in e.0) (joined (map primitives_in (map (λ e. e.0) es))) h))
+      (every es (each_right (IsKnown dump chain) (primitives_in e.0) (joined (map primitives_in (map (λ e. e.0) es))) h))
 
   abbrev Layer : Expr-F (Prim_ W) E → Type 0
   Layer z = AllByRecursion (IsKnown dump chain) (listed (map-Expr (Prim_ W) E (List (Prim_ W)) primitives_in z)) →
@@ -68,7 +54,7 @@ module _ {W : ℕ} (dump : Dump (Prim_ W)) (chain : ℕ) where
 
   known_rules : (rules : List (FlatRule (Prim_ W))) → AreKnown dump chain rules → AllByRecursion Known (rule_patterns rules)
   known_rules [] h = tt
-  known_rules (rule ∷ rules) h = all_append Known (patterns_of {W = W} rule.expr) (rule_patterns rules) (known_patterns rule.expr h.0) (known_rules rules h.1)
+  known_rules (rule ∷ rules) h = each_append Known (patterns_of {W = W} rule.expr) (rule_patterns rules) (known_patterns rule.expr h.0) (known_rules rules h.1)
 
   module _ (ps : List Pattern) (known : AllByRecursion Known ps) where
     base_known : (p : Pattern) → (p ≡ Pattern.Prefix []) ⊎ Contains ps p → (p ≡ Pattern.Prefix []) ⊎ Known p
@@ -76,12 +62,12 @@ module _ {W : ℕ} (dump : Dump (Prim_ W)) (chain : ℕ) where
     base_known p (inr c) = inr (contained Known ps p known c)
 
     names_known : (s : NameSet) → IsOf ps s → NamesKnown dump chain s
-    names_known s h = record { base = base_known s.base h.base; excluded = all_map (Contains ps) Known (λ p c. contained Known ps p known c) s.excluded h.excluded }
+    names_known s h = record { base = base_known s.base h.base; excluded = each_weaker (Contains ps) Known (λ p c. contained Known ps p known c) s.excluded h.excluded }
 
     cube_known : (c : Cube W) → NamesAreOf ps c → NamesAreKnown dump chain c
     cube_known c h = record { in_name = names_known c.in_name h.in_name; out_name = names_known c.out_name h.out_name }
 
   pub normal_known : (rules : List (FlatRule (Prim_ W))) → AreKnown dump chain rules → EachCube (NamesAreKnown dump chain) (normal_of rules)
   normal_known rules h =
-      all_map (λ (r : SimpleRule W). NamesAreOf (rule_patterns rules) r.cube) (λ (r : SimpleRule W). NamesAreKnown dump chain r.cube)
+      each_weaker (λ (r : SimpleRule W). NamesAreOf (rule_patterns rules) r.cube) (λ (r : SimpleRule W). NamesAreKnown dump chain r.cube)
       (λ r k. cube_known (rule_patterns rules) (known_rules rules h) r.cube k) (normal_of rules) (normal_patterns W rules)

@@ -1,6 +1,8 @@
 -- What is held after the states of a flat list came, by the list itself.
 use Rattle.std.proofs.Common.{◌≡◌, ℕ, ◌<◌, ◌≤◌, nat_lt, max, Bool, true, false, ◌||◌, ◌+◌, if◌then◌else◌, List, [], ◌∷◌, ◌++◌, length, length-append, append_assoc, append-nil, Option, None, Some, refl, sym, ◌∙◌, ap, map, arith}
 use Rattle.std.proofs.lemmas.Bool.Decides.{nat_tests}
+use Rattle.basics.proofs.Truths.{or_right}
+use Rattle.limits.specs.declared.TheConstants.{MOST_CUBES, MOST_RULES}
 use Rattle.match_expr.specs.declared.expr.FlatRule.{FlatRule}
 use Rattle.primitives.specs.declared.prim.Prim_.{Prim_}
 use Rattle.closure.specs.Stream.{cut_out}
@@ -8,10 +10,11 @@ use Rattle.box_norm.specs.declared.cube.Cube.{Cube}
 use Rattle.box_norm.specs.declared.cube.SimpleRule.{SimpleRule}
 use Rattle.box_norm.specs.Cuts.{Work, cuts_by}
 use Rattle.box_norm.specs.Normal.{boxes_of, normal_of, whole_of, with_verdict}
-use Rattle.box_norm.specs.Regular.{AreRegular}
+use Rattle.box_norm.specs.Regular.{AreRegular, EachCube}
+use Rattle.box_norm.specs.Sets.{HasSets}
 use Rattle.box_norm.proofs.Normals.{length_verdicts}
 use Rattle.box_norm.proofs.RegularLaws.{more_regular}
-use Rattle.simple_filter.specs.Collected.{within_limit, cut_by, is_over, some_over, rules_of, all_rules, whole_cubes, HasTaken}
+use Rattle.simple_filter.specs.inner.Collected.{within_limit, cut_by, is_over, some_over, rules_of, all_rules, whole_cubes, HasTaken}
 
 or_assoc : (a b c : Bool) → ((a || b) || c) ≡ (a || (b || c))
 or_assoc true b c = refl
@@ -20,10 +23,6 @@ or_assoc false b c = refl
 or_none : (a : Bool) → (a || false) ≡ a
 or_none true = refl
 or_none false = refl
-
-or_true : (a : Bool) → (a || true) ≡ true
-or_true true = refl
-or_true false = refl
 
 -- a state that was opened
 pub is_none : {X : Type 0} (over : Bool) (list : X) (state : Option X) → (if over then None else Some list) ≡ state → over ≡ true → None ≡ state
@@ -47,7 +46,7 @@ module _ {W : ℕ} where
   rules_append (y ∷ xs) x = rw (rules_append xs x) (sym (append_assoc (rules_of y.0 y.1) (all_rules xs) (rules_of x.0 x.1)))
 
   pub taken_none : HasTaken {W = W} [] false false []
-  taken_none = record { boxes = refl; rules = λ h. refl; few = λ h. omega arith; many = λ h. absurd (grind (arith, h)); regular = tt }
+  taken_none = record { boxes = refl; rules = λ h. refl; few = λ h. omega arith; many = λ h. absurd (grind (arith, h)); regular = tt; sets = tt }
 
   -- one more
   module _ (rules : List (SimpleRule W)) (full boxes : Bool) (xs : States W) (h : HasTaken rules full boxes xs) (accept : Bool) where
@@ -55,11 +54,12 @@ module _ {W : ℕ} where
     taken_over =
         let same : all_rules (xs ++ (None, accept) ∷ []) ≡ all_rules xs = rules_append xs (None, accept) ∙ append-nil (all_rules xs) in
         record {
-          boxes = sym (over_append xs (None, accept) ∙ or_true (some_over xs));
+          boxes = sym (over_append xs (None, accept) ∙ or_right (some_over xs) true refl);
           rules = λ f. h.rules f ∙ sym same;
           few = λ f. rw same (h.few f);
           many = λ f. rw same (h.many f);
           regular = h.regular;
+          sets = h.sets;
         }
 
     module _ (cubes : List (Cube W)) where
@@ -72,27 +72,30 @@ module _ {W : ℕ} where
       same_boxes : boxes ≡ some_over (xs ++ (Some cubes, accept) ∷ [])
       same_boxes = h.boxes ∙ sym (over_append xs (Some cubes, accept) ∙ or_none (some_over xs))
 
-      too_many : (b : Bool) → full ≡ b → (b ≡ false → 131072 < length rules + length cubes) → 131072 < length (all_rules (xs ++ (Some cubes, accept) ∷ []))
+      too_many : (b : Bool) → full ≡ b → (b ≡ false → MOST_RULES < length rules + length cubes) → MOST_RULES < length (all_rules (xs ++ (Some cubes, accept) ∷ []))
       too_many true f m = omega (arith, h.many f, long)
       too_many false f m = omega (arith, m refl, ap length (h.rules f), long)
 
       -- too many rules now, or before
-      pub taken_full : (full ≡ false → 131072 < length rules + length cubes) → HasTaken rules true boxes (xs ++ (Some cubes, accept) ∷ [])
+      pub taken_full : (full ≡ false → MOST_RULES < length rules + length cubes) → HasTaken rules true boxes (xs ++ (Some cubes, accept) ∷ [])
       taken_full m = record {
         boxes = same_boxes;
         rules = λ f. absurd (grind (arith, f));
         few = λ f. absurd (grind (arith, f));
         many = λ f. too_many full refl (λ e. m e);
         regular = h.regular;
+        sets = h.sets;
       }
 
-      pub taken_more : full ≡ false → length rules + length cubes ≤ 131072 → AreRegular cubes → HasTaken (rules ++ with_verdict accept cubes) false boxes (xs ++ (Some cubes, accept) ∷ [])
-      taken_more f small r = record {
+      pub taken_more : full ≡ false → length rules + length cubes ≤ MOST_RULES → AreRegular cubes → EachCube HasSets (rules ++ with_verdict accept cubes) →
+          HasTaken (rules ++ with_verdict accept cubes) false boxes (xs ++ (Some cubes, accept) ∷ [])
+      taken_more f small r s = record {
         boxes = same_boxes;
         rules = λ g. ap (λ z. z ++ with_verdict accept cubes) (h.rules f) ∙ sym more;
         few = λ g. omega (arith, small, ap length (h.rules f), long);
         many = λ g. absurd (grind (arith, g));
         regular = more_regular rules accept cubes h.regular r;
+        sets = s;
       }
 
 -- by the flat list
@@ -100,17 +103,17 @@ module _ (W : ℕ) where
   abbrev states : List (FlatRule (Prim_ W)) → List (Option (List (Cube W)) × Bool)
   states rules = map (cut_out (cut_by {W = W}) (whole_cubes W)) rules
 
-  over_is : (work : Work W) → is_over (within_limit work) ≡ nat_lt 16384 work.longest
-  over_is work = by (nat_lt 16384 work.longest)
+  over_is : (work : Work W) → is_over (within_limit work) ≡ nat_lt MOST_CUBES work.longest
+  over_is work = by (nat_lt MOST_CUBES work.longest)
     where
       by : (b : Bool) → is_over (if b then None else Some work.list) ≡ b
       by true = refl
       by false = refl
 
-  or_max : (a b : ℕ) → (nat_lt 16384 a || nat_lt 16384 b) ≡ nat_lt 16384 (max a b)
+  or_max : (a b : ℕ) → (nat_lt MOST_CUBES a || nat_lt MOST_CUBES b) ≡ nat_lt MOST_CUBES (max a b)
   or_max a b = grind (arith, nat_tests)
 
-  pub over_boxes : (rules : List (FlatRule (Prim_ W))) → some_over (states rules) ≡ nat_lt 16384 (boxes_of rules)
+  pub over_boxes : (rules : List (FlatRule (Prim_ W))) → some_over (states rules) ≡ nat_lt MOST_CUBES (boxes_of rules)
   over_boxes [] = refl
   over_boxes (rule ∷ rules) = rw (over_boxes rules, over_is ((cuts_by {W = W} rule.expr).keep (whole_of W ∷ []))) (or_max ((cuts_by {W = W} rule.expr).keep (whole_of W ∷ [])).longest (boxes_of rules))
 
@@ -118,26 +121,26 @@ module _ (W : ℕ) where
   rules_if true accept list h = absurd (grind (arith, h))
   rules_if false accept list h = refl
 
-  pub rules_normal : (rules : List (FlatRule (Prim_ W))) → boxes_of rules ≤ 16384 → all_rules (states rules) ≡ normal_of rules
+  pub rules_normal : (rules : List (FlatRule (Prim_ W))) → boxes_of rules ≤ MOST_CUBES → all_rules (states rules) ≡ normal_of rules
   rules_normal [] h = refl
   rules_normal (rule ∷ rules) h =
       rw (
         rules_normal rules (grind (arith, h)),
-        rules_if (nat_lt 16384 ((cuts_by {W = W} rule.expr).keep (whole_of W ∷ [])).longest) rule.accept ((cuts_by {W = W} rule.expr).keep (whole_of W ∷ [])).list (grind (arith, nat_tests, h)),
+        rules_if (nat_lt MOST_CUBES ((cuts_by {W = W} rule.expr).keep (whole_of W ∷ [])).longest) rule.accept ((cuts_by {W = W} rule.expr).keep (whole_of W ∷ [])).list (grind (arith, nat_tests, h)),
       ) refl
 
   -- all of the flat list
   module _ (rules : List (FlatRule (Prim_ W))) (taken : List (SimpleRule W)) (full boxes : Bool) (h : HasTaken taken full boxes (states rules)) where
-    pub boxes_pass : boxes ≡ true → 16384 < boxes_of rules
+    pub boxes_pass : boxes ≡ true → MOST_CUBES < boxes_of rules
     boxes_pass b = grind (arith, nat_tests, b, h.boxes ∙ over_boxes rules)
 
-    pub boxes_keep : boxes ≡ false → boxes_of rules ≤ 16384
+    pub boxes_keep : boxes ≡ false → boxes_of rules ≤ MOST_CUBES
     boxes_keep b = grind (arith, nat_tests, b, h.boxes ∙ over_boxes rules)
 
-    pub rules_pass : boxes ≡ false → full ≡ true → 131072 < length (normal_of rules)
+    pub rules_pass : boxes ≡ false → full ≡ true → MOST_RULES < length (normal_of rules)
     rules_pass b f = rw (← rules_normal rules (boxes_keep b)) (h.many f)
 
-    pub rules_keep : boxes ≡ false → full ≡ false → length (normal_of rules) ≤ 131072
+    pub rules_keep : boxes ≡ false → full ≡ false → length (normal_of rules) ≤ MOST_RULES
     rules_keep b f = rw (← rules_normal rules (boxes_keep b)) (h.few f)
 
     pub rules_are : boxes ≡ false → full ≡ false → taken ≡ normal_of rules

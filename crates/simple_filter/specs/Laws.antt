@@ -1,9 +1,7 @@
 -- What hiding keeps.
-use Rattle.std.specs.Prelude.{ℕ, ◌≡◌, ◌↔◌, Some, slice_get}
-use Rattle.fw_rule.specs.declared.rule.Chain.{Chain}
+use Rattle.std.specs.Prelude.{ℕ, ◌≡◌, ◌↔◌}
 use Rattle.fw_rule.specs.declared.rule.Dump.{Dump}
-use Rattle.fw_rule.specs.declared.rule.Verdict.{Verdict}
-use Rattle.fw_rule.specs.Walk.{HasRoom, Settled, May, Must}
+use Rattle.fw_rule.specs.Walk.{HasRoom, Settled, May, Must, policy_of}
 use Rattle.chain_graph.specs.Paths.{CallsNameChains}
 use Rattle.primitives.specs.Holds.{holds_of}
 use Rattle.primitives.specs.declared.prim.Packet.{Packet}
@@ -20,12 +18,11 @@ module _ {W : ℕ} (dump : Dump (Prim_ W)) where
   abbrev pub SettledStays : Type 0
   SettledStays = (hide : Hide) (chain : ℕ) → Settled dump chain ↔ Settled (hidden hide dump) chain
 
-  -- whatever is hidden, numbers fit as before, calls name chains as before, and a chain with a policy keeps it
+  -- whatever is hidden, numbers fit as before, calls name chains as before, and chains have the policies that they had
   pub record CallsStay : Type 0 where
     pub room : (hide : Hide) → HasRoom dump → HasRoom (hidden hide dump)
     pub named : (hide : Hide) → CallsNameChains dump → CallsNameChains (hidden hide dump)
-    pub policy : (hide : Hide) (chain : ℕ) (here : Chain (Prim_ W)) (v : Verdict) → slice_get dump.chains chain ≡ Some here → here.policy ≡ Some v →
-        (there : Chain (Prim_ W)) × (slice_get (hidden hide dump).chains chain ≡ Some there) × (there.policy ≡ Some v)
+    pub policy : (hide : Hide) (chain : ℕ) → policy_of (hidden hide dump) chain ≡ policy_of dump chain
 
   module _ (chain : ℕ) (p : Packet) where
     -- what may be accepted may be accepted after names are hidden

@@ -1,5 +1,5 @@
 pub mod Hidden
 pub mod Laws
 pub mod Closed
-pub mod Collected
+pub mod inner
 pub mod Refused

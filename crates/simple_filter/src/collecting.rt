@@ -1,13 +1,13 @@
 ghost use Rattle.std.specs.Prelude.{◌≡◌, ◌++◌, OnOk};
 ghost use Rattle.box_norm.specs.Normal.{with_verdict};
+ghost use Rattle.box_norm.specs.Regular.{EachCube};
+ghost use Rattle.box_norm.specs.Sets.{HasSets};
 
 use crate::cubes::Cubes;
 use box_norm::{Cube, SimpleRule};
 use closure::Sink;
+use limits::MOST_RULES;
 use std::alloc::{AllocError, Global};
-
-/// The most simple rules that there may be.
-const MOST: usize = 131_072;
 
 /// The simple rules of the flat rules so far. Past the limit none is added.
 #[derive(Drop)]
@@ -19,22 +19,35 @@ pub(crate) struct Collected<const W: u32> {
     pub has_boxes: bool,
 }
 
+/// That each list of ranges in a cube is a set.
+fn has_sets<const W: u32>(cube: &Cube<W>)
+    ensures { HasSets cube.now }
+{
+    let _ = cube.src.ranges();
+    let _ = cube.dst.ranges();
+    let _ = cube.proto.ranges();
+    let _ = cube.sport.ranges();
+    let _ = cube.dport.ranges();
+}
+
 /// Appends a rule with this verdict for each of the cubes.
 fn push_rules<const W: u32>(
     out: &mut Vec<SimpleRule<W>>,
     cubes: Vec<Cube<W>>,
     accept: bool,
 ) -> Result<(), AllocError>
-    ensures { OnOk result (out.new.items ≡ out.old.items ++ with_verdict accept cubes.entry.items) }
+    ensures rules { OnOk result (out.new.items ≡ out.old.items ++ with_verdict accept cubes.entry.items) }
+    ensures sets { OnOk result (EachCube HasSets out.old.items → EachCube HasSets out.new.items) }
 {
     for cube in cubes {
+        has_sets(&cube);
         out.push(SimpleRule { cube, accept })?;
     }
     Ok(())
 }
 
 impl<const W: u32> Sink<Cubes<W>> for Collected<W> {
-    ghost use Rattle.simple_filter.specs.Collected.{HasTaken};
+    ghost use Rattle.simple_filter.specs.inner.Collected.{HasTaken};
 
     ghost given = { λ k xs. HasTaken k.rules.items k.is_full k.has_boxes xs };
 
@@ -45,7 +58,7 @@ impl<const W: u32> Sink<Cubes<W>> for Collected<W> {
             return Ok(());
         }
         let cubes = list.into_vec();
-        if self.is_full || self.rules.len() + cubes.len() > MOST {
+        if self.is_full || self.rules.len() + cubes.len() > MOST_RULES {
             self.is_full = true;
             return Ok(());
         }

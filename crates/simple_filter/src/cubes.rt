@@ -1,6 +1,6 @@
 ghost use Rattle.std.specs.Prelude.{◌≡◌, None, IfOk};
 ghost use Rattle.interval_set.specs.Numbers.{IsWidth};
-ghost use Rattle.simple_filter.specs.Collected.{whole_cubes};
+ghost use Rattle.simple_filter.specs.inner.Collected.{whole_cubes};
 
 use box_norm::{Cube, CubeFault, cut_list, whole};
 use closure::State;
@@ -9,7 +9,7 @@ use primitives::Prim_;
 use std::alloc::{AllocError, Global};
 use std::marker::Model;
 
-/// Regular cubes that are cut by one expression after another, or that a list on the way had more than 16,384.
+/// Regular cubes that are cut by one expression after another, or that a list on the way had more than `MOST_CUBES`.
 #[derive(Drop)]
 pub(crate) struct Cubes<const W: u32> {
     pub list: List<Cube<W>>,
@@ -55,7 +55,7 @@ impl<const W: u32> Cubes<W> {
 }
 
 impl<const W: u32> State<Prim_<W>> for Cubes<W> {
-    ghost use Rattle.simple_filter.specs.Collected.{cut_by};
+    ghost use Rattle.simple_filter.specs.inner.Collected.{cut_by};
 
     ghost left = { cut_by {W = W} };
 

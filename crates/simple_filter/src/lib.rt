@@ -7,8 +7,6 @@ mod cubes;
 mod hiding;
 mod laws;
 mod refusal;
-#[cfg(test)]
-mod tests;
 
 pub use closing::closed;
 pub use hiding::{Hide, abstracted};

@@ -10,13 +10,13 @@ use thiserror::Error;
 pub enum Kind {
     /// A call path has 257 chains.
     Depth,
-    /// The rewritten tree has more than 262,144 items.
+    /// The rewritten tree has more than `limits::MOST_NODES` items.
     Nodes,
-    /// The flat list has more than 4,194,304 literals, repeats counted.
+    /// The flat list has more than `limits::MOST_LITERALS` literals, repeats counted.
     Literals,
-    /// A list of more than 16,384 cubes comes up.
+    /// A list of more than `limits::MOST_CUBES` cubes comes up.
     Boxes,
-    /// The simple rules are more than 131,072.
+    /// The simple rules are more than `limits::MOST_RULES`.
     Rules,
     /// The printed lines are too many.
     Lines,
@@ -34,7 +34,8 @@ pub enum Refusal {
     /// The least line of a rule in reach whose target isn't supported, and the target's name.
     #[error("line {line}: a target isn't supported")]
     Unsupported { line: u32, name: Bytes },
-    /// No target in reach is unsupported, and this is the first declared chain in reach that calls itself over some path.
+    /// No target in reach is unsupported, and this is the first declared chain in reach that calls itself over some
+    /// path.
     #[error("chain {chain} calls itself")]
     Loop { chain: u32 },
     /// Neither stands, and something is too much.

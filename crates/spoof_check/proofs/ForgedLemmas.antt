@@ -1,6 +1,6 @@
 -- The region of forged packets, and what the rules say of it.
 use Rattle.std.proofs.Common.{ℕ, suc, zero, ◌<◌, ◌^◌, ◌≡◌, Bool, false, true, List, Option, None, Some, ap, arith, refl, sym, subst, true≢false, ◌∙◌}
-use Rattle.std.specs.Prelude.{not, ◌&&◌, nat_lt, slice_get}
+use Rattle.std.specs.Prelude.{not, ◌&&◌, nat_lt}
 use Rattle.std.proofs.lemmas.Bool.Decides.{nat_tests}
 use Rattle.std.proofs.lemmas.Slice.Eq.{bytes_eq-Decides}
 use Rattle.std.specs.Str.{bytes_eq}
@@ -11,14 +11,14 @@ use Rattle.interval_set.proofs.Spelling.{not_has}
 use Rattle.primitives.specs.declared.prim.Packet.{Packet}
 use Rattle.primitives.specs.declared.prim.Prim_.{Prim_}
 use Rattle.primitives.specs.Holds.{IsValid, has_bit, holds_of}
-use Rattle.fw_rule.specs.declared.rule.Chain.{Chain}
 use Rattle.fw_rule.specs.declared.rule.Dump.{Dump}
 use Rattle.fw_rule.specs.declared.rule.Verdict.{Verdict}
-use Rattle.fw_rule.specs.Walk.{HasRoom}
+use Rattle.fw_rule.specs.Walk.{HasRoom, Settled, hidden_literal, policy_of}
 use Rattle.fw_laws.proofs.Hiding.{may_widens}
+use Rattle.fw_laws.proofs.Mapping.{settled_stays}
 use Rattle.chain_graph.specs.Paths.{CallsNameChains}
 use Rattle.closure.specs.Checked.{HasPolicy}
-use Rattle.closure.specs.declared.sides.Side.{Side}
+use Rattle.fw_rule.specs.declared.side.Side.{Side}
 use Rattle.box_norm.specs.declared.cube.SimpleRule.{SimpleRule}
 use Rattle.box_norm.specs.Cubes.{holds_cube}
 use Rattle.box_norm.proofs.NormalLaws.{whole_holds}
@@ -27,7 +27,6 @@ use Rattle.simple_filter.specs.Closed.{Accepts}
 use Rattle.simple_filter.specs.Laws.{CallsStay}
 use Rattle.simple_filter.specs.Hidden.{hidden, hides}
 use Rattle.simple_filter.specs.declared.hiding.Hide.{Hide}
-use Rattle.spoof_check.specs.Refusals.{HasVerdict}
 use Rattle.spoof_check.specs.Verdicts.{HoldsWhole, IsForged, IsRight, IsSaid, forged_region}
 use Rattle.spoof_check.specs.declared.answers.Spoof.{Spoof}
 
@@ -99,15 +98,18 @@ module _ {W : ℕ} (dump : Dump (Prim_ W)) (stay : CallsStay dump) (chain : ℕ)
   pub named_there : CallsNameChains dump → CallsNameChains shown
   named_there h = along CallsNameChains (stay.named Hide.OutNames h)
 
+  same_policy : policy_of shown chain ≡ policy_of dump chain
+  same_policy = ap (λ (d : Dump (Prim_ W)). policy_of d chain) same ∙ stay.policy Hide.OutNames chain
+
   pub policy_there : HasPolicy dump chain → HasPolicy shown chain
-  policy_there h =
-      let there = stay.policy Hide.OutNames chain h.0 h.1 h.2 h.3 in
-      along (λ (d : Dump (Prim_ W)). HasPolicy d chain) (there.0, h.1, there.1, there.2)
+  policy_there h = (h.0, same_policy ∙ h.1)
 
   pub meaning_there : (rules : List (SimpleRule W)) →
-      ((here : Chain (Prim_ W)) (policy : Verdict) → slice_get shown.chains chain ≡ Some here → here.policy ≡ Some policy → Accepts Side.Upper shown chain policy rules) →
-      (policy : Verdict) → HasVerdict dump chain policy → Accepts Side.Upper (hidden Hide.OutNames dump) chain policy rules
-  meaning_there rules h policy v =
-      let there = stay.policy Hide.OutNames chain v.0 policy v.1 v.2 in
-      subst (λ (d : Dump (Prim_ W)). Accepts Side.Upper d chain policy rules) same
-      (h there.0 policy (ap (λ (d : Dump (Prim_ W)). slice_get d.chains chain) same ∙ there.1) there.2)
+      ((policy : Verdict) → policy_of shown chain ≡ Some policy → Accepts Side.Upper shown chain policy rules) →
+      (policy : Verdict) → policy_of dump chain ≡ Some policy → Accepts Side.Upper (hidden Hide.OutNames dump) chain policy rules
+  meaning_there rules h policy has =
+      subst (λ (d : Dump (Prim_ W)). Accepts Side.Upper d chain policy rules) same (h policy (same_policy ∙ has))
+
+-- the dump itself is settled where the searched one is
+pub settled_before : {W : ℕ} (dump : Dump (Prim_ W)) (chain : ℕ) → Settled (hidden Hide.OutNames dump) chain → Settled dump chain
+settled_before dump chain h = (settled_stays dump (hidden_literal (hides Hide.OutNames)) chain).1 h

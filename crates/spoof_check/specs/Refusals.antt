@@ -1,14 +1,15 @@
 -- When there is no verdict.
-use Rattle.std.specs.Prelude.{ℕ, ◌≡◌, List, Some, slice_get}
+use Rattle.std.specs.Prelude.{ℕ, ◌≡◌, List, Some}
 use Rattle.interval_set.specs.declared.set.Range.{Range}
 use Rattle.primitives.specs.declared.prim.Prim_.{Prim_}
-use Rattle.fw_rule.specs.declared.rule.Chain.{Chain}
 use Rattle.fw_rule.specs.declared.rule.Dump.{Dump}
 use Rattle.fw_rule.specs.declared.rule.Verdict.{Verdict}
-use Rattle.closure.specs.declared.sides.Side.{Side}
+use Rattle.fw_rule.specs.declared.side.Side.{Side}
+use Rattle.fw_rule.specs.Walk.{policy_of}
+use Rattle.chain_graph.specs.Refusals.{IsChecked}
 use Rattle.box_norm.specs.declared.cube.SimpleRule.{SimpleRule}
 use Rattle.box_norm.specs.Normal.{normal_of}
-use Rattle.simple_filter.specs.Closed.{HasCalls, IsSmall, Refuses, flat_rules}
+use Rattle.simple_filter.specs.Closed.{IsSmall, RefusesClosed, flat_rules}
 use Rattle.simple_filter.specs.Hidden.{hidden}
 use Rattle.simple_filter.specs.declared.hiding.Hide.{Hide}
 use Rattle.simple_filter.specs.declared.refusal.Kind.{Kind}
@@ -23,22 +24,20 @@ module _ {W : ℕ} (dump : Dump (Prim_ W)) (chain : ℕ) where
   searched_rules = normal_of (flat_rules (hidden Hide.OutNames dump) chain Side.Upper)
 
   -- they are closed within the limits
-  abbrev pub IsClosed : Type 0
-  IsClosed = HasCalls (hidden Hide.OutNames dump) chain × IsSmall (hidden Hide.OutNames dump) chain Side.Upper
-
-  -- the chain has this policy
-  abbrev pub HasVerdict : Verdict → Type 0
-  HasVerdict policy = (here : Chain (Prim_ W)) × (slice_get dump.chains chain ≡ Some here) × (here.policy ≡ Some policy)
+  abbrev pub HasSearchedRules : Type 0
+  HasSearchedRules = IsChecked (hidden Hide.OutNames dump) chain × IsSmall (hidden Hide.OutNames dump) chain Side.Upper
 
   module _ (name : List ℕ) (inside : List Range) where
     -- the verdict is that of the search, which stays within its limit
     abbrev pub IsShown : Spoof → Type 0
-    IsShown verdict = IsClosed × ((policy : Verdict) × HasVerdict policy × IsSearched searched_rules policy name inside verdict)
+    IsShown verdict = HasSearchedRules × ((policy : Verdict) × (policy_of dump chain ≡ Some policy)
+        × IsSearched searched_rules policy name inside verdict)
 
-    -- when there is no verdict: where the chain isn't closed, or else where the search comes to more than 65,536 regions
+    -- when there is no verdict: where the chain isn't closed, or else where the search comes to too many regions
     abbrev pub RefusesSpoof : Refusal → Type 0
-    RefusesSpoof (Refusal.Limit Kind.Regions) = IsClosed × ((policy : Verdict) × HasVerdict policy × IsTooLong searched_rules policy name inside)
-    RefusesSpoof refusal = Refuses (hidden Hide.OutNames dump) chain Side.Upper refusal
+    RefusesSpoof (Refusal.Limit Kind.Regions) = HasSearchedRules × ((policy : Verdict) × (policy_of dump chain ≡ Some policy)
+        × IsTooLong searched_rules policy name inside)
+    RefusesSpoof refusal = RefusesClosed (hidden Hide.OutNames dump) chain Side.Upper refusal
 
 -- when the search of some rules has no verdict. Want of memory tells nothing
 abbrev pub RefusesSearched : {W : ℕ} → List (SimpleRule W) → Verdict → List ℕ → List Range → RegionFault → Type 0

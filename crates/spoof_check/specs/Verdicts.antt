@@ -1,5 +1,5 @@
 -- Whether forged sources pass an interface.
-use Rattle.std.specs.Prelude.{ℕ, ◌≡◌, ◌-◌, ◌^◌, ◌⊎◌, false, true, List, [], ◌∷◌}
+use Rattle.std.specs.Prelude.{ℕ, ◌≡◌, ◌-◌, ◌^◌, ◌⊎◌, false, true, List, [], ◌∷◌, None, Some}
 use Rattle.interval_set.specs.declared.set.Range.{Range}
 use Rattle.interval_set.specs.Numbers.{has}
 use Rattle.interval_set.specs.Spelling.{set_not}
@@ -13,7 +13,7 @@ use Rattle.fw_rule.specs.Walk.{May}
 use Rattle.box_norm.specs.declared.cube.Cube.{Cube}
 use Rattle.box_norm.specs.declared.cube.SimpleRule.{SimpleRule}
 use Rattle.box_norm.specs.Normal.{whole_of}
-use Rattle.region_cut.specs.Search.{FindsNone, HasManyRegions, IsFound, is_accepted, with_policy}
+use Rattle.region_cut.specs.Search.{Finds, IsTooLarge, is_accepted, with_policy}
 use Rattle.simple_filter.specs.Hidden.{hidden}
 use Rattle.simple_filter.specs.declared.hiding.Hide.{Hide}
 use Rattle.spoof_check.specs.declared.answers.Spoof.{Spoof}
@@ -59,9 +59,9 @@ module _ {W : ℕ} where
 
   -- The verdict of the search of the region: nothing is searched where every address is inside, and the packet that is shown is the one that is found.
   abbrev pub IsSearched : List (SimpleRule W) → Verdict → List ℕ → List Range → Spoof → Type 0
-  IsSearched rules policy name inside Spoof.Holds = HasAll W inside ⊎ FindsNone (forged_region name inside) (with_policy rules policy)
-  IsSearched rules policy name inside (Spoof.Violated p) = (HasAll W inside → ⊥) × IsFound (forged_region name inside) (with_policy rules policy) p
+  IsSearched rules policy name inside Spoof.Holds = HasAll W inside ⊎ Finds (forged_region name inside) (with_policy rules policy) None
+  IsSearched rules policy name inside (Spoof.Violated p) = (HasAll W inside → ⊥) × Finds (forged_region name inside) (with_policy rules policy) (Some p)
 
   -- the search comes to more than 65,536 regions
   abbrev pub IsTooLong : List (SimpleRule W) → Verdict → List ℕ → List Range → Type 0
-  IsTooLong rules policy name inside = (HasAll W inside → ⊥) × HasManyRegions (forged_region name inside) (with_policy rules policy)
+  IsTooLong rules policy name inside = (HasAll W inside → ⊥) × IsTooLarge (forged_region name inside) (with_policy rules policy)

@@ -1,22 +1,22 @@
-ghost use Rattle.std.specs.Prelude.{◌≡◌, ◌⊎◌, IfErr, IfOk, OnOk};
+ghost use Rattle.std.specs.Prelude.{◌≡◌, ◌⊎◌, IfErr, IfOk, OnOk, Some};
 ghost use Rattle.interval_set.specs.Numbers.{IsWidth};
 ghost use Rattle.fw_rule.specs.Calls.{HasRoom};
 ghost use Rattle.fw_rule.specs.declared.rule.Verdict.{Verdict as AVerdict};
+ghost use Rattle.fw_rule.specs.declared.side.Side.{Side};
+ghost use Rattle.fw_rule.specs.Walk.{policy_of};
 ghost use Rattle.chain_graph.specs.Paths.{CallsNameChains};
 ghost use Rattle.closure.specs.Checked.{HasPolicy};
-ghost use Rattle.closure.specs.declared.sides.Side.{Side};
-ghost use Rattle.simple_filter.specs.Closed.{Accepts, Refuses};
+ghost use Rattle.simple_filter.specs.Closed.{Accepts, RefusesClosed};
 ghost use Rattle.simple_filter.specs.Hidden.{hidden};
 ghost use Rattle.simple_filter.specs.declared.hiding.Hide.{Hide};
 ghost use Rattle.simple_filter.specs.declared.refusal.Kind.{Kind};
 ghost use Rattle.region_cut.specs.Search.{Finds, RefusesSearch, Tells, with_policy};
-ghost use Rattle.spoof_check.specs.Refusals.{HasVerdict, IsClosed, IsShown, RefusesSearched, RefusesSpoof, searched_rules};
+ghost use Rattle.spoof_check.specs.Refusals.{HasSearchedRules, IsShown, RefusesSearched, RefusesSpoof, searched_rules};
 ghost use Rattle.spoof_check.specs.Verdicts.{HoldsWhole, IsRight, IsSaid, IsSearched, forged_region};
 
 use crate::answers::Spoof;
 use box_norm::{Cube, SimpleRule, whole};
-use closure::{Side, policy_of};
-use fw_rule::{Dump, Verdict};
+use fw_rule::{Dump, Side, Verdict, settled_policy};
 use interval_set::Set;
 use match_expr::{Bytes, List};
 use name_set::{NameSet, Pattern};
@@ -44,8 +44,8 @@ fn forged_region<const W: u32>(
     Ok(region)
 }
 
-/// A packet of the region of forged packets that the rules accept, with the policy where no rule has the packet: the one that `first_hit` of
-/// `region_cut` finds.
+/// A packet of the region of forged packets that the rules accept, with the policy where no rule has the packet: the one
+/// that `first_hit` of `region_cut` finds.
 fn forged_hit<const W: u32>(
     alloc: Global,
     rules: &[SimpleRule<W>],
@@ -62,10 +62,11 @@ fn forged_hit<const W: u32>(
     first_hit(alloc, &region, rules, policy)
 }
 
-/// The verdict of some rules, read by first match, and a policy on the packets that open a connection, come in by the interface of that
-/// name, and have a source that isn't `inside`. W is 32 or 128.
+/// The verdict of some rules, read by first match, and a policy on the packets that open a connection, come in by the
+/// interface of that name, and have a source that isn't `inside`. W is 32 or 128.
 ///
-/// The packet that is shown is the one that `first_hit` of `region_cut` finds. Where every address is inside, nothing is searched.
+/// The packet that is shown is the one that `first_hit` of `region_cut` finds. Where every address is inside, nothing is
+/// searched.
 ///
 /// # Errors
 ///
@@ -92,8 +93,8 @@ fn searched<const W: u32>(
     }
 }
 
-/// The simple rules in which verdicts on a chain are searched: those of side Upper, with the tests of output interfaces hidden. They
-/// serve for any number of interfaces. The chain has a policy. W is 32 or 128.
+/// The simple rules in which verdicts on a chain are searched: those of side Upper, with the tests of output interfaces
+/// hidden. They serve for any number of interfaces. The chain has a policy. W is 32 or 128.
 ///
 /// # Errors
 ///
@@ -108,17 +109,17 @@ pub fn searched_rules<const W: u32>(
     requires room { HasRoom dump.now }
     requires named { CallsNameChains dump.now }
     ensures rules { IfOk result (λ rules. rules ≡ searched_rules dump.now chain) }
-    ensures closed { OnOk result (IsClosed dump.now chain) }
-    ensures meaning { IfOk result (λ rules. (policy : AVerdict) → HasVerdict dump.now chain policy → Accepts Side.Upper (hidden Hide.OutNames dump.now) chain policy rules) }
-    ensures refused { IfErr result (Refuses (hidden Hide.OutNames dump.now) chain Side.Upper) }
+    ensures closed { OnOk result (HasSearchedRules dump.now chain) }
+    ensures meaning { IfOk result (λ rules. (policy : AVerdict) → policy_of dump.now chain ≡ Some policy → Accepts Side.Upper (hidden Hide.OutNames dump.now) chain policy rules) }
+    ensures refused { IfErr result (RefusesClosed (hidden Hide.OutNames dump.now) chain Side.Upper) }
 {
     hiding_keeps_calls(dump);
     let hidden = abstracted(alloc, dump, Hide::OutNames)?;
     closed(alloc, &hidden, chain, Side::Upper)
 }
 
-/// The verdict of a chain with this policy on one interface, by the rules that `searched_rules` answers for the chain. What it
-/// says is what `spoof` says.
+/// The verdict of a chain with this policy on one interface, by the rules that `searched_rules` answers for the chain. What
+/// it says is what `spoof` says.
 ///
 /// # Errors
 ///
@@ -134,8 +135,8 @@ pub fn verdict<const W: u32>(
 ) -> Result<Spoof, Refusal>
     requires width { IsWidth W }
     requires rules { rules.now ≡ searched_rules dump.now chain }
-    requires closed { IsClosed dump.now chain }
-    requires policy { HasVerdict dump.now chain policy }
+    requires closed { HasSearchedRules dump.now chain }
+    requires policy { policy_of dump.now chain ≡ Some policy }
     requires meaning { Accepts Side.Upper (hidden Hide.OutNames dump.now) chain policy rules.now }
     ensures right { IfOk result (IsRight dump.now chain name.now inside.now) }
     ensures whole { IfOk result (HoldsWhole dump.now chain name.now inside.now) }
@@ -150,13 +151,14 @@ pub fn verdict<const W: u32>(
     }
 }
 
-/// Whether a chain may accept, with the tests of output interfaces hidden, a packet that opens a connection, comes in by the interface of
-/// that name, and has a source that isn't `inside`; and such a packet where it may. The chain has a policy. W is 32 or 128.
+/// Whether a chain may accept, with the tests of output interfaces hidden, a packet that opens a connection, comes in by the
+/// interface of that name, and has a source that isn't `inside`; and such a packet where it may. The chain has a policy. W
+/// is 32 or 128.
 ///
 /// # Errors
 ///
-/// Those of `closed`, of side Upper, for the dump with the tests of output interfaces hidden. Else `Limit(Regions)` exactly where the search
-/// comes to more than 65,536 regions. `Memory` where memory runs out.
+/// Those of `closed`, of side Upper, for the dump with the tests of output interfaces hidden. Else `Limit(Regions)` exactly
+/// where the search comes to more than 65,536 regions. `Memory` where memory runs out.
 pub fn spoof<const W: u32>(
     alloc: Global,
     dump: &Dump<Prim_<W>>,
@@ -174,6 +176,6 @@ pub fn spoof<const W: u32>(
     ensures refused { IfErr result (RefusesSpoof dump.now chain name.now inside.now) }
 {
     let rules = searched_rules(alloc, dump, chain)?;
-    let policy = policy_of(dump, chain);
+    let policy = settled_policy(dump, chain);
     verdict(alloc, dump, chain, policy, rules.as_slice(), name, inside)
 }

@@ -6,6 +6,3 @@ mod checking;
 
 pub use answers::Spoof;
 pub use checking::{searched_rules, spoof, verdict};
-
-#[cfg(test)]
-mod tests;

@@ -1,5 +1,6 @@
 use Rattle.std.proofs.Common.{◌≤◌, ◌∙◌, ap, arith, length, refl, ◌++◌, map}
 use Rattle.std.specs.Option.{unwrap_or}
+use Rattle.limits.specs.declared.TheConstants.{MOST_CUBES}
 use Rattle.box_norm.specs.Cuts.{cuts_by, keep_all}
 use Rattle.box_norm.specs.Regular.{IsRegular}
 use Rattle.box_norm.proofs.Loops.{goes_begin, goes_turn, omits_begin, omits_fault, omits_keep_fault, omits_full, omits_turn}
@@ -28,10 +29,10 @@ omit_parts-loop-part-init g t c = record {
 pub omit_parts-returns-in-Err-clause-answers : goal.omit_parts-returns-in-Err-clause-answers
 omit_parts-returns-in-Err-clause-answers g t c = omits_fault g.row.W c.args.parts.now c.loop-part.part-index c.part-item.result (unwrap_or c.loop-part.kept c.args.list.now) c.list_now.result.now _ c.loop-part-test.true c.part-item.is c.list_now.ensures c.loop-part.out.items c.loop-part.invariant.work c.in-Err.fault c.in-Err.ensures.answers
 
-pub omit_parts-returns-then-len-gt-LIMIT-clause-answers : goal.omit_parts-returns-then-len-gt-LIMIT-clause-answers
-omit_parts-returns-then-len-gt-LIMIT-clause-answers g t c =
+pub omit_parts-returns-then-len-gt-MOST_CUBES-clause-answers : goal.omit_parts-returns-then-len-gt-MOST_CUBES-clause-answers
+omit_parts-returns-then-len-gt-MOST_CUBES-clause-answers g t c =
     omits_full g.row.W c.args.parts.now c.loop-part.part-index c.part-item.result (unwrap_or c.loop-part.kept c.args.list.now) c.list_now.result.now _ c.loop-part-test.true c.part-item.is c.list_now.ensures c.loop-part.out.items c.loop-part.invariant.work c.into_vec.result.items (c.into_vec.ensures ∙ c.in-Ok.ensures.answers.0)
-    (omega (arith, ap length c.in_ok-out.ensures, c.len.ensures, c.if-len-gt-LIMIT.true))
+    (omega (arith, ap length c.in_ok-out.ensures, c.len.ensures, c.if-len-gt-MOST_CUBES.true))
 
 pub omit_parts-returns-in-Err-keep_list-clause-answers : goal.omit_parts-returns-in-Err-keep_list-clause-answers
 omit_parts-returns-in-Err-keep_list-clause-answers g t c = omits_keep_fault g.row.W c.args.parts.now c.loop-part.part-index c.part-item.result (unwrap_or c.loop-part.kept c.args.list.now) c.list_now-in-loop-part.result.now _ c.loop-part-test.true c.part-item.is c.list_now-in-loop-part.ensures c.loop-part.out.items c.loop-part.invariant.work c.in-Err-keep_list.fault c.in-Err-keep_list.ensures.answers
@@ -40,7 +41,7 @@ pub omit_parts-loop-part-preserved : goal.omit_parts-loop-part-preserved
 omit_parts-loop-part-preserved g t c =
     let a = rw c.list_now.ensures at c.in-Ok.ensures.answers in
     let b = rw c.list_now-in-loop-part.ensures at c.in-Ok-keep_list.ensures.answers in
-    let small : length (c.loop-part.out.items ++ c.into_vec.result.items) ≤ 16384 = omega (arith, ap length c.in_ok-out.ensures, c.len.ensures, c.if-len-gt-LIMIT.false) in
+    let small : length (c.loop-part.out.items ++ c.into_vec.result.items) ≤ MOST_CUBES = omega (arith, ap length c.in_ok-out.ensures, c.len.ensures, c.if-len-gt-MOST_CUBES.false) in
     record {
       work = rw c.in_ok-out.ensures (omits_turn g.row.W c.args.parts.now c.loop-part.part-index c.part-item.result (unwrap_or c.loop-part.kept c.args.list.now) (unwrap_or c.loop-part.kept c.args.list.now) _ c.loop-part-test.true c.part-item.is refl
           c.loop-part.out.items c.loop-part.invariant.work c.in-Ok-keep_list.next c.into_vec.result.items (c.into_vec.ensures ∙ a.0, a.1) b small);

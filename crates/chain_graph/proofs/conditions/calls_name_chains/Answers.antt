@@ -3,7 +3,8 @@ use Rattle.std.proofs.lemmas.Bool.{cases_eq}
 use Rattle.std.proofs.lemmas.Option.{slice_get_within}
 use Rattle.fw_rule.specs.Calls.{Calls}
 use Rattle.fw_rule.proofs.Turns.{read_at}
-use Rattle.chain_graph.specs.Marks.{IsCalled, AreRulesOf}
+use Rattle.chain_graph.specs.Marks.{AreRulesOf}
+use Rattle.chain_graph.specs.inner.Spreading.{IsCalled}
 use Rattle.chain_graph.proofs.Marking.{calls_by, called_by}
 use Rattle.chain_graph.proofs.conditions.calls_name_chains.Goals as goal
 

@@ -1,5 +1,5 @@
 use Rattle.std.proofs.Common.{ℕ, ◌<◌, get_or, take}
-use Rattle.chain_graph.specs.Marks.{IsCalled}
+use Rattle.chain_graph.specs.inner.Spreading.{IsCalled}
 use Rattle.chain_graph.proofs.loops.calls_below.Given as goal
 
 abbrev pub invariant-loop-rule : goal.invariant-loop-rule

@@ -1,6 +1,7 @@
 use Rattle.std.proofs.Common.{◌∙◌, ◌<◌, ℕ, List, get_or, sym, subst, true≢false}
 use Rattle.fw_rule.specs.Calls.{Reaches}
-use Rattle.chain_graph.specs.Marks.{MarksAre, IsCalled}
+use Rattle.chain_graph.specs.Marks.{MarksAre}
+use Rattle.chain_graph.specs.inner.Spreading.{IsCalled}
 use Rattle.chain_graph.proofs.LoopLemmas.{off_loops, one_off}
 use Rattle.chain_graph.proofs.loops.first_loop.Goals as goal
 

@@ -3,7 +3,7 @@ use Rattle.chain_graph.specs.declared.ranking.Found.{Found}
 use Rattle.chain_graph.proofs.Marking.{calls_by, callee_inside}
 use Rattle.chain_graph.proofs.RankLemmas.{known_deep, read_has, grown, too_deep, plain, calling, put_table, put_grows, put_has}
 use Rattle.chain_graph.proofs.ranking.+rank_of.Goals as goal
-use Rattle.chain_graph.proofs.ranking.+rank_of.Goals.{in-Some-callee_of+in-Some-rank_of, in_default-callee_of}
+use Rattle.chain_graph.proofs.ranking.+rank_of.Goals.{in-Some-target+in-Some-rank_of, in_default-target}
 
 pub returns-in-Some-clause-none : goal.returns-in-Some-clause-none
 returns-in-Some-clause-none g t c =
@@ -12,26 +12,26 @@ returns-in-Some-clause-none g t c =
 
 pub rank_of-requires : goal.rank_of-requires
 rank_of-requires g t c κs within =
-    let inside = callee_inside c.args.dump.now c.requires.named c.args.chain c.rules_of-rule-items.result.now c.rules_of-rule-items.ensures c.in-Some-callee_of.callee (c.rule-item.result, (c.loop-rule.rule-index, c.loop-rule-test.true, sym c.rule-item.is), c.in-Some-callee_of.ensures) in
+    let inside = callee_inside c.args.dump.now c.requires.named c.args.chain c.rules_of-rule-items.result.now c.rules_of-rule-items.ensures c.in-Some-target.callee (c.rule-item.result, (c.loop-rule.rule-index, c.loop-rule-test.true, sym c.rule-item.is), (sym c.in-Some-target.ensures)) in
     (omega (arith, c.if-depth-eq0.false, c.decreases), (search rules, (search rules, (inside, (c.requires.named, c.loop-rule.invariant.right)))))
 
 pub returns-in_default-rank_of-clause-grows : goal.returns-in_default-rank_of-clause-grows
-returns-in_default-rank_of-clause-grows g t c = grown c.args.dump.now c.args.chain c.in-Some-callee_of.callee c.args.table.now c.loop-rule.table c.rank_of.new.table
-    (calls_by c.args.dump.now c.args.chain c.rules_of-rule-items.result.now c.rules_of-rule-items.ensures c.in-Some-callee_of.callee (c.rule-item.result, (c.loop-rule.rule-index, c.loop-rule-test.true, sym c.rule-item.is), c.in-Some-callee_of.ensures)) c.loop-rule.invariant.grows c.in_default-rank_of.ensures.grows
+returns-in_default-rank_of-clause-grows g t c = grown c.args.dump.now c.args.chain c.in-Some-target.callee c.args.table.now c.loop-rule.table c.rank_of.new.table
+    (calls_by c.args.dump.now c.args.chain c.rules_of-rule-items.result.now c.rules_of-rule-items.ensures c.in-Some-target.callee (c.rule-item.result, (c.loop-rule.rule-index, c.loop-rule-test.true, sym c.rule-item.is), (sym c.in-Some-target.ensures))) c.loop-rule.invariant.grows c.in_default-rank_of.ensures.grows
 
 pub returns-in_default-rank_of-clause-none : goal.returns-in_default-rank_of-clause-none
-returns-in_default-rank_of-clause-none g t c = too_deep c.args.dump.now c.args.chain c.args.depth c.in-Some-callee_of.callee (omega (arith, c.if-depth-eq0.false))
-    (calls_by c.args.dump.now c.args.chain c.rules_of-rule-items.result.now c.rules_of-rule-items.ensures c.in-Some-callee_of.callee (c.rule-item.result, (c.loop-rule.rule-index, c.loop-rule-test.true, sym c.rule-item.is), c.in-Some-callee_of.ensures)) c.in_default-rank_of.ensures.none
+returns-in_default-rank_of-clause-none g t c = too_deep c.args.dump.now c.args.chain c.args.depth c.in-Some-target.callee (omega (arith, c.if-depth-eq0.false))
+    (calls_by c.args.dump.now c.args.chain c.rules_of-rule-items.result.now c.rules_of-rule-items.ensures c.in-Some-target.callee (c.rule-item.result, (c.loop-rule.rule-index, c.loop-rule-test.true, sym c.rule-item.is), (sym c.in-Some-target.ensures))) c.in_default-rank_of.ensures.none
 
 pub loop-rule-preserved : goal.loop-rule-preserved
-loop-rule-preserved g t c = elim c.match-callee_of.branch [
-  | in-Some-callee_of+in-Some-rank_of w ↦ rw (w.table-is, w.below-is, w.visits-is)
+loop-rule-preserved g t c = elim c.match-target.branch [
+  | in-Some-target+in-Some-rank_of w ↦ rw (w.table-is, w.below-is, w.visits-is)
       (calling c.args.dump.now c.args.chain c.args.depth c.rules_of-rule-items.result.now c.loop-rule.rule-index c.args.table.now c.loop-rule.table c.loop-rule.below c.loop-rule.visits c.rule-item.result c.loop-rule-test.true c.rule-item.is c.loop-rule.invariant
-      w.in-Some-callee_of.callee w.in-Some-callee_of.ensures (calls_by c.args.dump.now c.args.chain c.rules_of-rule-items.result.now c.rules_of-rule-items.ensures w.in-Some-callee_of.callee (c.rule-item.result, (c.loop-rule.rule-index, c.loop-rule-test.true, sym c.rule-item.is), w.in-Some-callee_of.ensures))
+      w.in-Some-target.callee (sym w.in-Some-target.ensures) (calls_by c.args.dump.now c.args.chain c.rules_of-rule-items.result.now c.rules_of-rule-items.ensures w.in-Some-target.callee (c.rule-item.result, (c.loop-rule.rule-index, c.loop-rule-test.true, sym c.rule-item.is), (sym w.in-Some-target.ensures)))
       w.rank_of.new.table w.in-Some-rank_of.found w.in-Some-rank_of.ensures.right w.in-Some-rank_of.ensures.grows (w.in-Some-rank_of.ensures.some).0 (w.in-Some-rank_of.ensures.some).1
-      w.max-below.result w.saturating_add-visits-in-Some-callee_of.result (omega (arith, w.max-below.ensures)) (omega (arith, w.saturating_add-visits-in-Some-callee_of.ensures, c.saturating_add-visits.ensures)))
-  | in_default-callee_of w ↦ rw (w.table-is, w.below-is, w.visits-is)
-      (plain c.args.dump.now c.args.chain c.args.depth c.rules_of-rule-items.result.now c.loop-rule.rule-index c.args.table.now c.loop-rule.table c.loop-rule.below c.loop-rule.visits c.rule-item.result c.loop-rule-test.true c.rule-item.is c.loop-rule.invariant w.in_default-callee_of.ensures c.saturating_add-visits.result (omega (arith, c.saturating_add-visits.ensures)))
+      w.max-below.result w.saturating_add-visits-in-Some-target.result (omega (arith, w.max-below.ensures)) (omega (arith, w.saturating_add-visits-in-Some-target.ensures, c.saturating_add-visits.ensures)))
+  | in_default-target w ↦ rw (w.table-is, w.below-is, w.visits-is)
+      (plain c.args.dump.now c.args.chain c.args.depth c.rules_of-rule-items.result.now c.loop-rule.rule-index c.args.table.now c.loop-rule.table c.loop-rule.below c.loop-rule.visits c.rule-item.result c.loop-rule-test.true c.rule-item.is c.loop-rule.invariant (sym w.in_default-target.ensures) c.saturating_add-visits.result (omega (arith, c.saturating_add-visits.ensures)))
 ]
 
 pub returns-clause-right : goal.returns-clause-right

@@ -1,6 +1,6 @@
 use Rattle.std.proofs.Common.{◌≡◌, ℕ, true, subst, sym}
 use Rattle.std.proofs.Math.ListN.{set}
-use Rattle.chain_graph.specs.Marks.{Spread}
+use Rattle.chain_graph.specs.inner.Spreading.{Spread}
 use Rattle.chain_graph.proofs.Marking.{newly}
 use Rattle.chain_graph.proofs.reach.mark.Goals as goal
 

@@ -1,5 +1,5 @@
 use Rattle.std.proofs.Common.{take}
-use Rattle.chain_graph.specs.Marks.{Spread, IsCalled}
+use Rattle.chain_graph.specs.inner.Spreading.{Spread, IsCalled}
 use Rattle.chain_graph.proofs.reach.mark_callees.Given as goal
 
 abbrev pub invariant-loop-rule : goal.invariant-loop-rule

@@ -1,6 +1,6 @@
 use Rattle.std.proofs.Common.{◌≡◌, ◌∙◌, ℕ, List, Bool, false, length, drop, arith, ap, sym, subst}
 use Rattle.std.proofs.Math.ListN.{replicate}
-use Rattle.chain_graph.specs.Marks.{Spread, IsCalled}
+use Rattle.chain_graph.specs.inner.Spreading.{Spread, IsCalled}
 use Rattle.chain_graph.proofs.Marking.{Flood, start, turn, filled, written, emptied, next_inside, callee_inside}
 use Rattle.chain_graph.proofs.reach.reached_by_call.Goals as goal
 

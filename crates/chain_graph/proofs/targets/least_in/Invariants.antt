@@ -1,5 +1,5 @@
 use Rattle.std.proofs.Common.{take}
-use Rattle.chain_graph.specs.Targets.{IsLeastOf, TargetIn}
+use Rattle.chain_graph.specs.inner.Targets.{IsLeastOf, TargetIn}
 use Rattle.chain_graph.proofs.targets.least_in.Given as goal
 
 abbrev pub invariant-loop-rule : goal.invariant-loop-rule

@@ -1,4 +1,4 @@
-use Rattle.chain_graph.specs.Targets.{IsLeastOf, TargetBefore}
+use Rattle.chain_graph.specs.inner.Targets.{IsLeastOf, TargetBefore}
 use Rattle.chain_graph.proofs.targets.least_unsupported.Given as goal
 
 abbrev pub invariant-loop-next : goal.invariant-loop-next

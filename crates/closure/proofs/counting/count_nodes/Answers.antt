@@ -2,9 +2,9 @@ use Rattle.std.proofs.Common.{◌≡◌, ◌∙◌, ℕ, ◌+◌, ◌-◌, List,
 use Rattle.std.proofs.lemmas.List.{length-replicate}
 use Rattle.chain_graph.proofs.Marking.{written}
 use Rattle.closure.specs.declared.counting.Counts.{Counts}
-use Rattle.closure.specs.Checked.{IsChecked}
-use Rattle.closure.specs.Counts.{entry}
-use Rattle.closure.specs.Counted.{AreCounted}
+use Rattle.closure.specs.Checked.{IsRankedWithPolicy}
+use Rattle.closure.specs.inner.Counts.{entry}
+use Rattle.closure.specs.inner.Counted.{AreCounted}
 use Rattle.closure.proofs.CountLemmas.{none_counted}
 use Rattle.closure.proofs.RankReads.{asked_rank}
 use Rattle.closure.proofs.counting.count_nodes.Goals as goal
@@ -16,7 +16,7 @@ pub loop-below-init : goal.loop-below-init
 loop-below-init g c = none_counted c.args.side c.args.dump.now c.args.chain c.args.ranked.now c.requires c.in_ok-table.table.items (ap length (c.in_ok-table.ensures.items_if_clones_equal (λ y e. e)) ∙ length-replicate (length c.as_slice.result.now) _ ∙ ap length c.as_slice.ensures)
 
 pub count_rank-requires-clause-checked : goal.count_rank-requires-clause-checked
-count_rank-requires-clause-checked g c = subst (λ (a : ℕ). IsChecked c.args.dump.now a c.args.ranked.now) (sym (c.requires.ranks).entry) c.requires
+count_rank-requires-clause-checked g c = subst (λ (a : ℕ). IsRankedWithPolicy c.args.dump.now a c.args.ranked.now) (sym (c.requires.ranks).entry) c.requires
 
 pub count_rank-requires-clause-lesser : goal.count_rank-requires-clause-lesser
 count_rank-requires-clause-lesser g c =

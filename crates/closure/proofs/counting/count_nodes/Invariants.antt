@@ -1,4 +1,4 @@
-use Rattle.closure.specs.Counted.{AreCounted}
+use Rattle.closure.specs.inner.Counted.{AreCounted}
 use Rattle.closure.proofs.counting.count_nodes.Given as goal
 
 abbrev pub invariant-loop-below : goal.invariant-loop-below

@@ -2,7 +2,7 @@ use Rattle.std.proofs.Common.{length, Some, sym, ◌∙◌, ap, arith, true≢fa
 use Rattle.std.proofs.lemmas.Option.{slice_get_within}
 use Rattle.fw_rule.specs.declared.rule.Chain.{Chain}
 use Rattle.fw_rule.proofs.Turns.{read_at}
-use Rattle.closure.specs.Counts.{rules_items}
+use Rattle.closure.specs.inner.Counts.{rules_items}
 use Rattle.closure.proofs.CountLemmas.{start, other_rank, this_rank, counted}
 use Rattle.closure.proofs.RankReads.{ranks_long}
 use Rattle.closure.proofs.counting.count_rank.Goals as goal

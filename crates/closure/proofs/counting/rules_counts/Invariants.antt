@@ -1,5 +1,5 @@
 use Rattle.std.proofs.Common.{◌≡◌, ◌-◌, drop, length}
-use Rattle.closure.specs.Counts.{rules_items}
+use Rattle.closure.specs.inner.Counts.{rules_items}
 use Rattle.closure.proofs.counting.rules_counts.Given as goal
 
 abbrev pub invariant-loop-passed : goal.invariant-loop-passed

@@ -1,7 +1,7 @@
 use Rattle.std.proofs.Common.{◌≡◌, ◌∙◌, sym, refl, ap, map, []}
 use Rattle.closure.specs.Rewriting.{chain_tree}
 use Rattle.closure.specs.Stream.{stream}
-use Rattle.closure.specs.Parts.{with_part, rule_of_parts}
+use Rattle.closure.specs.inner.Parts.{with_part, rule_of_parts}
 use Rattle.closure.proofs.PartLemmas.{flat_streamed}
 use Rattle.closure.proofs.flattening.flat_rules.Goals as goal
 

@@ -1,5 +1,5 @@
 use Rattle.std.proofs.Common.{◌≡◌, map}
-use Rattle.closure.specs.Parts.{rule_of_parts}
+use Rattle.closure.specs.inner.Parts.{rule_of_parts}
 use Rattle.closure.proofs.flattening.rules_of_parts.Given as goal
 
 abbrev pub invariant-loop-parts : goal.invariant-loop-parts

@@ -1,5 +1,5 @@
 use Rattle.std.proofs.Common.{◌≡◌, ◌++◌, drop}
-use Rattle.closure.specs.Ways.{carried}
+use Rattle.closure.specs.inner.Ways.{carried}
 use Rattle.closure.proofs.tally.carry.Given as goal
 
 abbrev pub invariant-loop-way : goal.invariant-loop-way

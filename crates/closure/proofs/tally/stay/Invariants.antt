@@ -1,6 +1,6 @@
 use Rattle.std.proofs.Common.{◌≡◌, ◌+◌, ◌-◌, ◌^◌, ◌≤◌, drop}
-use Rattle.closure.specs.Counts.{capped}
-use Rattle.closure.specs.Ways.{stayed}
+use Rattle.closure.specs.inner.Counts.{capped}
+use Rattle.closure.specs.inner.Ways.{stayed}
 use Rattle.closure.proofs.tally.stay.Given as goal
 
 abbrev pub invariant-loop-way : goal.invariant-loop-way

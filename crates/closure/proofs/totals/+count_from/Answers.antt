@@ -1,12 +1,13 @@
 use Rattle.std.proofs.Common.{◌≡◌, ◌≤◌, ◌-◌, ◌^◌, ◌+◌, length, refl, sym, ◌∙◌, ap, arith, rules}
-use Rattle.fw_rule.proofs.Turns.{chain_inside, shallower, further, calls_of}
+use Rattle.fw_rule.proofs.Turns.{chain_inside, shallower, further}
 use Rattle.fw_rule.specs.Matching.{doubt_in}
 use Rattle.closure.specs.declared.modes.Mode.TheVariants.{Soft}
 use Rattle.closure.specs.declared.modes.Row.{Row}
-use Rattle.closure.specs.Counts.{capped}
+use Rattle.closure.specs.inner.Counts.{capped}
 use Rattle.closure.specs.Rewriting.{kind, row_of}
-use Rattle.closure.specs.Items.{items_from}
-use Rattle.closure.proofs.FlatLemmas.{hardness_small, within_some, run_kind, calls, rule_here, rules_over, tree_called}
+use Rattle.closure.specs.inner.Items.{items_from}
+use Rattle.closure.proofs.RowLemmas.{row_is}
+use Rattle.closure.proofs.FlatLemmas.{hardness_small, within_some, run_kind, calls, leads, rule_here, rules_over, tree_called}
 use Rattle.closure.proofs.Tallies.{begun, all_tallied, tally_skipped, tally_decided, tally_left, tally_left_later, tally_ran}
 use Rattle.closure.proofs.totals.+count_from.Goals as goal
 use Rattle.closure.proofs.totals.+count_from.Goals.{in-Skip, in-Decide, in-Leave+in_ok-leave-in-Leave, in-LeaveLater+in_ok-inner-in-LeaveLater+in_ok-run-in-LeaveLater+in_ok-leave-in-LeaveLater, in-Run+in_ok-inner-in-Run+in_ok-run-in-Run}
@@ -26,9 +27,9 @@ overflow_sub-called g t c = within_some c.args.dump.now c.args.from.depth c.args
 pub count_from-requires-in-Run : goal.count_from-requires-in-Run
 count_from-requires-in-Run g t c κs within =
     let rule = c.index-rules-next.result in
-    let r : Row.Run c.in-Run.callee c.in-Run.mode ≡ row_of c.args.side (doubt_in rule.lits) (kind c.args.side rule.action) c.args.from.mode = sym c.in-Run.is ∙ c.row_of.ensures ∙ rw (c.doubtful.ensures, c.kind_of.ensures) refl in
+    let r : Row.Run c.in-Run.callee c.in-Run.mode ≡ row_of c.args.side (doubt_in rule.lits) (kind c.args.side rule.action) c.args.from.mode = sym c.in-Run.is ∙ row_is c.args.side c.args.from.mode c.row_of.result c.doubtful.result (doubt_in rule.lits) c.kind_of.result (kind c.args.side rule.action) c.row_of.ensures c.doubtful.ensures c.kind_of.ensures in
     let k = run_kind c.args.side (doubt_in rule.lits) (kind c.args.side rule.action) c.args.from.mode c.in-Run.mode c.in-Run.callee r in
-    let call = calls_of c.args.dump.now c.args.from.chain c.loop-next.next c.as_slice.result.now c.index-as_slice-from.result c.as_slice-rules.result.now c.as_slice.ensures c.requires.settled c.index-as_slice-from.is c.as_slice-rules.ensures rule c.loop-next-test.true c.index-rules-next.is c.in-Run.callee (calls c.args.side rule.action c.in-Run.callee k.0) in
+    let call = leads c.args.dump.now c.args.from.chain c.loop-next.next c.as_slice.result.now c.index-as_slice-from.result c.as_slice-rules.result.now c.as_slice.ensures c.requires.settled c.index-as_slice-from.is c.as_slice-rules.ensures rule c.loop-next-test.true c.index-rules-next.is c.in-Run.callee (calls c.args.side rule.action c.in-Run.callee k.0) in
     let less = shallower c.args.dump.now c.args.from.depth c.args.from.chain c.in-Run.callee c.requires.within call in
     let small = hardness_small c.in-Run.mode in
     (omega (arith, less.0, small, c.decreases), (search rules, (search rules, (further c.args.dump.now c.args.from.chain c.in-Run.callee c.requires.settled call, (less.1, omega (arith, less.0, k.1, c.requires.room))))))
@@ -39,7 +40,7 @@ loop-next-preserved g t c =
     let now = c.loop-next.tally in
     let small : c.args.around ≤ 2 ^ 64 - 1 = omega (arith, c.ranges.around.fits) in
     let here = rule_here c.args.dump.now c.args.from.chain c.loop-next.next c.as_slice.result.now c.index-as_slice-from.result c.as_slice-rules.result.now c.as_slice.ensures c.requires.settled c.index-as_slice-from.is c.as_slice-rules.ensures rule c.loop-next-test.true c.index-rules-next.is in
-    let row : c.row_of.result ≡ row_of c.args.side (doubt_in rule.lits) (kind c.args.side rule.action) c.args.from.mode = c.row_of.ensures ∙ rw (c.doubtful.ensures, c.kind_of.ensures) refl in
+    let row : c.row_of.result ≡ row_of c.args.side (doubt_in rule.lits) (kind c.args.side rule.action) c.args.from.mode = row_is c.args.side c.args.from.mode c.row_of.result c.doubtful.result (doubt_in rule.lits) c.kind_of.result (kind c.args.side rule.action) c.row_of.ensures c.doubtful.ensures c.kind_of.ensures in
     let whole : c.saturating_add-whole.result ≡ capped (capped (c.args.around + now.past) + c.known_literals-literals.result) = c.saturating_add-whole.ensures ∙ rw c.saturating_add.ensures refl in
     elim c.match-row_of.branch [
       | in-Skip w ↦ rw w.tally-is
@@ -60,7 +61,7 @@ loop-next-preserved g t c =
       | in-Run+in_ok-inner-in-Run+in_ok-run-in-Run w ↦ (
           let r : Row.Run w.in-Run.callee w.in-Run.mode ≡ row_of c.args.side (doubt_in rule.lits) (kind c.args.side rule.action) c.args.from.mode = sym w.in-Run.is ∙ row in
           let k = run_kind c.args.side (doubt_in rule.lits) (kind c.args.side rule.action) c.args.from.mode w.in-Run.mode w.in-Run.callee r in
-          let call = calls_of c.args.dump.now c.args.from.chain c.loop-next.next c.as_slice.result.now c.index-as_slice-from.result c.as_slice-rules.result.now c.as_slice.ensures c.requires.settled c.index-as_slice-from.is c.as_slice-rules.ensures rule c.loop-next-test.true c.index-rules-next.is w.in-Run.callee (calls c.args.side rule.action w.in-Run.callee k.0) in
+          let call = leads c.args.dump.now c.args.from.chain c.loop-next.next c.as_slice.result.now c.index-as_slice-from.result c.as_slice-rules.result.now c.as_slice.ensures c.requires.settled c.index-as_slice-from.is c.as_slice-rules.ensures rule c.loop-next-test.true c.index-rules-next.is w.in-Run.callee (calls c.args.side rule.action w.in-Run.callee k.0) in
           let less = shallower c.args.dump.now c.args.from.depth c.args.from.chain w.in-Run.callee c.requires.within call in
           let called = tree_called c.args.side c.args.dump.now (c.args.from.depth - 1) w.in-Run.callee w.in-Run.mode (within_some c.args.dump.now (c.args.from.depth - 1) w.in-Run.callee less.1) in
           rw w.tally-is

@@ -1,10 +1,10 @@
 use Rattle.std.proofs.Common.{◌∙◌, ap, sym, arith}
 use Rattle.fw_rule.specs.Walk.{Here}
 use Rattle.closure.specs.declared.modes.Mode.TheVariants.{Hard}
-use Rattle.closure.specs.Counts.{capped}
+use Rattle.closure.specs.inner.Counts.{capped}
 use Rattle.closure.specs.Rewriting.{Tree, chain_tree}
 use Rattle.closure.specs.Stream.{stream}
-use Rattle.closure.specs.Totals.{total_of, with_literals}
+use Rattle.closure.specs.inner.Totals.{total_of, with_literals}
 use Rattle.closure.proofs.FlatLemmas.{tree_called, within_some}
 use Rattle.closure.proofs.RankReads.{is_settled, asked_rank, rank_is, within_rank, ranked_tree}
 use Rattle.closure.proofs.TotalLemmas.{literals_totalled}

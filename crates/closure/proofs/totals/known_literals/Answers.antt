@@ -1,8 +1,8 @@
 use Rattle.std.proofs.Common.{◌≡◌, map, arith, ap, ◌∙◌}
 use Rattle.std.proofs.lemmas.Grind.{common_steps}
 use Rattle.match_expr.specs.Meaning.{sum_of}
-use Rattle.closure.specs.Counts.{capped}
-use Rattle.closure.specs.Totals.{lit_count}
+use Rattle.closure.specs.inner.Counts.{capped}
+use Rattle.closure.specs.inner.Totals.{lit_count}
 use Rattle.closure.proofs.TotalLemmas.{known_counted}
 use Rattle.closure.proofs.totals.known_literals.Goals as goal
 

@@ -1,7 +1,7 @@
 use Rattle.std.proofs.Common.{◌≡◌, ◌+◌, ◌-◌, ◌^◌, ◌≤◌, map, drop}
 use Rattle.match_expr.specs.Meaning.{sum_of}
-use Rattle.closure.specs.Counts.{capped}
-use Rattle.closure.specs.Totals.{lit_count}
+use Rattle.closure.specs.inner.Counts.{capped}
+use Rattle.closure.specs.inner.Totals.{lit_count}
 use Rattle.closure.proofs.totals.known_literals.Given as goal
 
 abbrev pub invariant-loop-lit : goal.invariant-loop-lit

@@ -1,4 +1,4 @@
-use Rattle.dump_grammar.specs.Kinds.{addresses_at}
+use Rattle.opt_table.specs.Rows.{addresses_at}
 use Rattle.dump_grammar.proofs.AddressLemmas.{no_net}
 use Rattle.dump_grammar.proofs.addresses.net_literal.Goals as goal
 

@@ -1,6 +1,6 @@
 use Rattle.std.proofs.Common.{arith, subst}
 use Rattle.primitives.specs.Ports.{HasPorts}
-use Rattle.dump_grammar.proofs.ProtocolOnce.{proto_once}
+use Rattle.primitives.proofs.WordLemmas.{proto_once}
 use Rattle.dump_grammar.proofs.protocols.protocol_with_ports.Goals as goal
 
 pub returns-in_default-clause-none : goal.returns-in_default-clause-none

@@ -1,5 +1,5 @@
 use Rattle.std.proofs.Common.{rules}
-use Rattle.dump_grammar.specs.declared.kinds.Kind.{Kind}
+use Rattle.opt_table.specs.declared.kind.Kind.{Kind}
 use Rattle.dump_grammar.specs.Lines.{texts, words_of}
 use Rattle.dump_grammar.proofs.GroupLemmas.{if_none, if_some, ok_none, ok_some}
 use Rattle.dump_grammar.proofs.SayingLemmas.{line_of, line_ports, line_there, of_said, said_of}
@@ -65,24 +65,17 @@ returns-in-Addresses-clause-none g c =
     let w = of_said {W = g.row.W} g.F.Family.Reads g.groups c.args.kind (Kind.Addresses c.in-Addresses.side) (texts (words_of c.args.arguments.now)) c.args.negated e c.in-Addresses.is says in
     none w.0 w.1 w.2.0 w.2.1)
 
-pub returns-in-State-clause-some : goal.returns-in-State-clause-some
-returns-in-State-clause-some g c =
-    if_some c.states.result _ _ c.states.ensures.some (λ e is. said_of {W = g.row.W} g.F.Family.Reads g.groups c.args.kind Kind.State (texts (words_of c.args.arguments.now)) c.args.negated e c.in-State.is is)
+pub returns-in-States-clause-some : goal.returns-in-States-clause-some
+returns-in-States-clause-some g c =
+    if_some c.states.result _ _ c.states.ensures.some
+    (λ e is. said_of {W = g.row.W} g.F.Family.Reads g.groups c.args.kind Kind.States
+    (texts (words_of c.args.arguments.now)) c.args.negated e c.in-States.is is)
 
-pub returns-in-State-clause-none : goal.returns-in-State-clause-none
-returns-in-State-clause-none g c =
+pub returns-in-States-clause-none : goal.returns-in-States-clause-none
+returns-in-States-clause-none g c =
     if_none c.states.result _ _ c.states.ensures.none (λ none e says.
-    let w = of_said {W = g.row.W} g.F.Family.Reads g.groups c.args.kind Kind.State (texts (words_of c.args.arguments.now)) c.args.negated e c.in-State.is says in
-    none w.0 w.1 w.2.0 w.2.1)
-
-pub returns-in-ConnectionState-clause-some : goal.returns-in-ConnectionState-clause-some
-returns-in-ConnectionState-clause-some g c =
-    if_some c.states-in-ConnectionState.result _ _ c.states-in-ConnectionState.ensures.some (λ e is. said_of {W = g.row.W} g.F.Family.Reads g.groups c.args.kind Kind.ConnectionState (texts (words_of c.args.arguments.now)) c.args.negated e c.in-ConnectionState.is is)
-
-pub returns-in-ConnectionState-clause-none : goal.returns-in-ConnectionState-clause-none
-returns-in-ConnectionState-clause-none g c =
-    if_none c.states-in-ConnectionState.result _ _ c.states-in-ConnectionState.ensures.none (λ none e says.
-    let w = of_said {W = g.row.W} g.F.Family.Reads g.groups c.args.kind Kind.ConnectionState (texts (words_of c.args.arguments.now)) c.args.negated e c.in-ConnectionState.is says in
+    let w = of_said {W = g.row.W} g.F.Family.Reads g.groups c.args.kind Kind.States
+    (texts (words_of c.args.arguments.now)) c.args.negated e c.in-States.is says in
     none w.0 w.1 w.2.0 w.2.1)
 
 pub returns-in-Comment-clause-some : goal.returns-in-Comment-clause-some

@@ -1,7 +1,7 @@
 use Rattle.std.proofs.Common.{◌∙◌, ◌++◌, ◌-◌, true, false, ap, append-nil, arith, sym}
 use Rattle.std.proofs.lemmas.Result.{on_ok_weaker}
 use Rattle.dump_print.proofs.FlagLemmas.{half_of, no_flag, other_halves, same_halves}
-use Rattle.dump_print.proofs.Steps.{grown}
+use Rattle.primitives.proofs.Growing.{grown}
 use Rattle.dump_print.proofs.flags.+add_cubes.Goals as goal
 
 pub returns-in_ok-push : goal.returns-in_ok-push

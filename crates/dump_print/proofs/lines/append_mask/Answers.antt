@@ -1,7 +1,7 @@
 use Rattle.std.proofs.Common.{◌∷◌, [], codes}
 use Rattle.std.proofs.lemmas.Result.{on_ok_weaker}
+use Rattle.primitives.specs.Words.{flags_text}
 use Rattle.dump_grammar.specs.Lines.{Word, bare}
-use Rattle.dump_print.specs.Flags.{flags_text}
 use Rattle.dump_print.proofs.SpacedLemmas.{spaced_grown, spaced_word}
 use Rattle.dump_print.proofs.lines.append_mask.Goals as goal
 

@@ -1,6 +1,7 @@
 use Rattle.std.proofs.Common.{arith}
 use Rattle.dump_print.proofs.NameLemmas.{escaped_more}
-use Rattle.dump_print.proofs.Steps.{grown, kept, on_err}
+use Rattle.primitives.proofs.Growing.{grown}
+use Rattle.dump_print.proofs.Steps.{kept, on_err}
 use Rattle.dump_print.proofs.names.append_escaped.Goals as goal
 
 pub returns-in_err-append_byte-clause-err : goal.returns-in_err-append_byte-clause-err

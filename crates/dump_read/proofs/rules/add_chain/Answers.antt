@@ -3,7 +3,7 @@ use Rattle.fw_rule.specs.declared.rule.Rule.{Rule}
 use Rattle.primitives.specs.declared.prim.Prim_.{Prim_}
 use Rattle.dump_grammar.specs.ChainLines.{is_among}
 use Rattle.dump_grammar.specs.Tables.{names_of}
-use Rattle.dump_read.proofs.Basics.{clash}
+use Rattle.basics.proofs.Truths.{clash}
 use Rattle.dump_read.proofs.StateLemmas.{chain_added, declared_of, none_ruled}
 use Rattle.dump_read.proofs.rules.add_chain.Goals as goal
 

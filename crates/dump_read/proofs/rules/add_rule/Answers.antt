@@ -6,7 +6,7 @@ use Rattle.primitives.specs.declared.prim.Prim_.{Prim_}
 use Rattle.dump_grammar.specs.Tables.{Placed}
 use Rattle.dump_grammar.specs.Reads.{rule_of}
 use Rattle.dump_read.specs.declared.state.Reading.{Reading}
-use Rattle.dump_read.specs.States.{Keeps, with_rule}
+use Rattle.dump_read.specs.inner.States.{Keeps, with_rule}
 use Rattle.dump_read.proofs.StateLemmas.{rule_added, rule_kept}
 use Rattle.dump_read.proofs.rules.add_rule.Goals as goal
 use Rattle.dump_read.proofs.rules.add_rule.Goals.{then-is_none, else-is_none}

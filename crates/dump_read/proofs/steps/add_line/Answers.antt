@@ -4,7 +4,7 @@ use Rattle.std.proofs.lemmas.Result.{err_from_is_err_and, on_ok_weaker, IfErr-we
 use Rattle.dump_grammar.specs.Lines.{Word, IsLine}
 use Rattle.dump_grammar.proofs.PolicyLemmas.{one_chain_line}
 use Rattle.dump_read.proofs.Readers.{words_lines}
-use Rattle.dump_read.proofs.Basics.{clash}
+use Rattle.basics.proofs.Truths.{clash}
 use Rattle.dump_read.proofs.TakeLemmas.{malformed_less, words_has, add_close, chain_goes, rule_goes, add_none, chain_stuck}
 use Rattle.dump_read.proofs.steps.add_line.Goals as goal
 

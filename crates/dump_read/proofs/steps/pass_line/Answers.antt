@@ -1,4 +1,4 @@
-use Rattle.dump_read.proofs.Basics.{clash}
+use Rattle.basics.proofs.Truths.{clash}
 use Rattle.dump_read.proofs.TakeLemmas.{pass_commit, pass_other}
 use Rattle.dump_read.proofs.steps.pass_line.Goals as goal
 

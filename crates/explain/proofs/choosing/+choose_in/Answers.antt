@@ -2,8 +2,9 @@ use Rattle.std.proofs.Common.{rules, ◌≡◌, ◌<◌, ◌++◌, ◌∙◌, �
 use Rattle.std.proofs.lemmas.Option.{slice_get-get_or}
 use Rattle.fw_rule.specs.declared.rule.Step.{Step}
 use Rattle.fw_rule.specs.declared.rule.Verdict.{Verdict}
-use Rattle.fw_rule.specs.Walk.{Path}
-use Rattle.fw_rule.proofs.Turns.{shallower, further, chain_there}
+use Rattle.fw_rule.specs.Walk.{Path, target_of}
+use Rattle.fw_rule.proofs.Ends.{found_at}
+use Rattle.fw_rule.proofs.Turns.{chain_inside, shallower, further}
 use Rattle.explain.specs.declared.reach.Match.{Match}
 use Rattle.explain.specs.declared.reach.Reach.{Reach}
 use Rattle.explain.specs.declared.views.Sight.{Sight}
@@ -44,18 +45,18 @@ returns-in-Back-clause-chooses g t c = gone_back g.P.Primitive.meaning c.args.du
     (c.in_ok-push_places.ensures ∙ ap (λ (z : Path). c.loop-next.places.items ++ unknown_places z 0 c.index-rules-next.result.lits) c.as_slice.ensures.value) c.in-Back.is
 
 pub overflow_sub-depth : goal.overflow_sub-depth
-overflow_sub-depth g t c = (shallower c.args.dump.now c.args.depth c.args.chain c.in-Call.callee c.requires.within (calls_of c.args.dump.now c.args.chain c.rules_of-rules.result.now c.rules_of-rules.ensures c.loop-next.next c.index-rules-next.result c.loop-next-test.true c.index-rules-next.is c.in-Call.callee c.in-Call.is)).0
+overflow_sub-depth g t c = (shallower c.args.dump.now c.args.depth c.args.chain c.in-Call.callee c.requires.within (calls_of c.args.dump.now c.args.chain c.rules_of-rules.result.now c.rules_of-rules.ensures c.loop-next.next c.index-rules-next.result c.loop-next-test.true c.index-rules-next.is c.in-Call.callee (ap target_of c.in-Call.is))).0
 
 pub choose_in-requires : goal.choose_in-requires
 choose_in-requires g t c κs within =
-    let calls = calls_of c.args.dump.now c.args.chain c.rules_of-rules.result.now c.rules_of-rules.ensures c.loop-next.next c.index-rules-next.result c.loop-next-test.true c.index-rules-next.is c.in-Call.callee c.in-Call.is in
+    let calls = calls_of c.args.dump.now c.args.chain c.rules_of-rules.result.now c.rules_of-rules.ensures c.loop-next.next c.index-rules-next.result c.loop-next-test.true c.index-rules-next.is c.in-Call.callee (ap target_of c.in-Call.is) in
     let less = shallower c.args.dump.now c.args.depth c.args.chain c.in-Call.callee c.requires.within calls in
     (omega (arith, less.0, c.decreases), (search rules, (search rules, (further c.args.dump.now c.args.chain c.in-Call.callee c.requires.settled calls, (less.1, (c.requires.room, (c.requires.covers, c.requires.covers.below c.args.chain c.requires.has.0 c.requires.has.1 c.in-Call.callee calls)))))))
 
 pub returns-then-is_some-clause-chooses : goal.returns-then-is_some-clause-chooses
 returns-then-is_some-clause-chooses g t c =
-    let calls = calls_of c.args.dump.now c.args.chain c.rules_of-rules.result.now c.rules_of-rules.ensures c.loop-next.next c.index-rules-next.result c.loop-next-test.true c.index-rules-next.is c.in-Call.callee c.in-Call.is in
-    let there = chain_there c.args.dump.now c.in-Call.callee (further c.args.dump.now c.args.chain c.in-Call.callee c.requires.settled calls) in
+    let calls = calls_of c.args.dump.now c.args.chain c.rules_of-rules.result.now c.rules_of-rules.ensures c.loop-next.next c.index-rules-next.result c.loop-next-test.true c.index-rules-next.is c.in-Call.callee (ap target_of c.in-Call.is) in
+    let there = found_at c.args.dump.now.chains c.in-Call.callee (chain_inside c.args.dump.now c.in-Call.callee (further c.args.dump.now c.args.chain c.in-Call.callee c.requires.settled calls)) in
     let some = some_of c.in_ok-outcome-in-Call.outcome (sym c.is_some.ensures ∙ c.if-is_some.true) in
     gone_inside g.P.Primitive.meaning c.args.dump.now c.args.views.now c.args.chain c.args.path.now.items c.args.past_end c.args.places.now.items c.loop-next.next c.loop-next.path.items c.loop-next.places.items c.loop-next.invariant c.sights_of-sights.result.now c.sights_of-sights.ensures (get_or c.sights_of-sights.result.now c.loop-next.next unseen) (slice_get-get_or c.sights_of-sights.result.now c.loop-next.next unseen (inside c.args.dump.now c.args.chain c.rules_of-rules.result.now c.rules_of-rules.ensures c.loop-next.next c.args.views.now c.sights_of-sights.result.now c.requires.covers c.sights_of-sights.ensures c.loop-next-test.true)) c.index-rules-next.result (rule_at c.args.dump.now c.args.chain c.rules_of-rules.result.now c.rules_of-rules.ensures c.loop-next.next c.index-rules-next.result c.loop-next-test.true c.index-rules-next.is) (sym c.is_passed.ensures ∙ c.if-is_passed.false) c.push.new.self.items c.in_ok-push.ensures.items c.push_places.new.places.items
     (c.in_ok-push_places.ensures ∙ ap (λ (z : Path). c.loop-next.places.items ++ unknown_places z 0 c.index-rules-next.result.lits) c.as_slice.ensures.value) c.in-Call.callee c.in-Call.is there.0 there.1 c.is_reached-behind.result c.is_reached-behind.ensures
@@ -74,8 +75,8 @@ loop-next-preserved g t c = elim c.match-rule.branch [
       (c.in_ok-push_places.ensures ∙ ap (λ (z : Path). c.loop-next.places.items ++ unknown_places z 0 c.index-rules-next.result.lits) c.as_slice.ensures.value) w.in-Pass.is c.pop-in-loop-next.new.self.items
       (popped c.loop-next.path.items c.match-rule.path.items c.pop-in-loop-next.new.self.items (record { chain = c.args.chain; rule = c.loop-next.next }) (vec_len c.match-rule.path) (ap (λ (z : Vec Step Global). z.items) w.path-is ∙ c.in_ok-push.ensures.items) c.pop-in-loop-next.ensures.rest (omega (arith, c.match-rule.path.ok.0))))
   | in-Call+in_ok-outcome-in-Call+else-is_some w ↦ (
-      let calls = calls_of c.args.dump.now c.args.chain c.rules_of-rules.result.now c.rules_of-rules.ensures c.loop-next.next c.index-rules-next.result c.loop-next-test.true c.index-rules-next.is w.in-Call.callee w.in-Call.is in
-      let there = chain_there c.args.dump.now w.in-Call.callee (further c.args.dump.now c.args.chain w.in-Call.callee c.requires.settled calls) in
+      let calls = calls_of c.args.dump.now c.args.chain c.rules_of-rules.result.now c.rules_of-rules.ensures c.loop-next.next c.index-rules-next.result c.loop-next-test.true c.index-rules-next.is w.in-Call.callee (ap target_of w.in-Call.is) in
+      let there = found_at c.args.dump.now.chains w.in-Call.callee (chain_inside c.args.dump.now w.in-Call.callee (further c.args.dump.now c.args.chain w.in-Call.callee c.requires.settled calls)) in
       let none = none_of w.in_ok-outcome-in-Call.outcome (sym w.is_some.ensures ∙ w.if-is_some.false) in
       let back : w.choose_in.new.path.items ≡ c.push.new.self.items = kept w.in_ok-outcome-in-Call.outcome none w.in_ok-outcome-in-Call.ensures.path in
       rw w.places-is (going_behind g.P.Primitive.meaning c.args.dump.now c.args.views.now c.args.chain c.args.path.now.items c.args.past_end c.args.places.now.items c.loop-next.next c.loop-next.path.items c.loop-next.places.items c.loop-next.invariant c.sights_of-sights.result.now c.sights_of-sights.ensures (get_or c.sights_of-sights.result.now c.loop-next.next unseen) (slice_get-get_or c.sights_of-sights.result.now c.loop-next.next unseen (inside c.args.dump.now c.args.chain c.rules_of-rules.result.now c.rules_of-rules.ensures c.loop-next.next c.args.views.now c.sights_of-sights.result.now c.requires.covers c.sights_of-sights.ensures c.loop-next-test.true)) c.index-rules-next.result (rule_at c.args.dump.now c.args.chain c.rules_of-rules.result.now c.rules_of-rules.ensures c.loop-next.next c.index-rules-next.result c.loop-next-test.true c.index-rules-next.is) (sym c.is_passed.ensures ∙ c.if-is_passed.false) c.push.new.self.items c.in_ok-push.ensures.items c.push_places.new.places.items

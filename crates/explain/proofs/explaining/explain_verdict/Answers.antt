@@ -2,8 +2,8 @@ use Rattle.std.proofs.Common.{◌≡◌, ◌∙◌, ◌++◌, Bool, true, List, 
 use Rattle.fw_rule.specs.declared.rule.Place.{Place}
 use Rattle.fw_rule.specs.Walk.{Path, Here}
 use Rattle.chain_graph.proofs.Marking.{written}
-use Rattle.explain.specs.Views.{AreRight}
-use Rattle.explain.specs.Choosing.{ChoosesTo}
+use Rattle.explain.specs.inner.Views.{AreRight}
+use Rattle.explain.specs.inner.Choosing.{ChoosesTo}
 use Rattle.explain.proofs.ExplainLemmas.{covers_none, has_none, unexplained, explained}
 use Rattle.explain.proofs.explaining.explain_verdict.Goals as goal
 use Rattle.fw_rule.specs.declared.rule.Verdict.{Verdict}
@@ -29,7 +29,7 @@ view_chain-requires-clause-right g c = λ k view h. absurd (has_none c.args.dump
 
 pub returns-then-not-is_reached : goal.returns-then-not-is_reached
 returns-then-not-is_reached g c =
-    unexplained g.P.Primitive.meaning c.args.dump.now c.args.p.now c.args.wanted c.args.chain c.policy_of.ensures.0 c.policy_of.ensures.1 c.policy_of.result c.policy_of.ensures.2 c.eq-by_policy.result (same_verdicts c.policy_of.result c.args.wanted c.eq-by_policy.result c.eq-by_policy.ensures) c.in_ok-start.start c.in_ok-start.ensures.is
+    unexplained g.P.Primitive.meaning c.args.dump.now c.args.p.now c.args.wanted c.args.chain c.settled_policy.result c.settled_policy.ensures c.eq-by_policy.result (same_verdicts c.settled_policy.result c.args.wanted c.eq-by_policy.result c.eq-by_policy.ensures) c.in_ok-start.start c.in_ok-start.ensures.is
     (sym c.is_reached.ensures ∙ c.if-not-is_reached.true)
 
 pub choose_in-requires-clause-settled : goal.choose_in-requires-clause-settled
@@ -44,7 +44,7 @@ returns g c =
     let chosen = c.in_ok-choose_in.ensures.chooses in
     let places_are : chosen.0 ≡ c.of.result = sym (c.of.ensures ∙ chosen.1 ∙ ap (λ (z : List Place). z ++ chosen.0) c.new-places.ensures.items) in
     let empty = c.new-path.ensures.items in
-    explained g.P.Primitive.meaning c.args.dump.now c.args.p.now c.args.wanted c.args.chain c.policy_of.ensures.0 c.policy_of.ensures.1 c.policy_of.result c.policy_of.ensures.2 c.eq-by_policy.result (same_verdicts c.policy_of.result c.args.wanted c.eq-by_policy.result c.eq-by_policy.ensures) c.in_ok-start.start c.in_ok-start.ensures.is
+    explained g.P.Primitive.meaning c.args.dump.now c.args.p.now c.args.wanted c.args.chain c.settled_policy.result c.settled_policy.ensures c.eq-by_policy.result (same_verdicts c.settled_policy.result c.args.wanted c.eq-by_policy.result c.eq-by_policy.ensures) c.in_ok-start.start c.in_ok-start.ensures.is
     (sym c.is_reached.ensures ∙ c.if-not-is_reached.false) c.in_ok-choose_in.field-0 c.of.result
     (subst (λ (z : List Place). ChoosesTo g.P.Primitive.meaning c.args.dump.now c.args.p.now c.args.wanted c.args.chain [] c.eq-by_policy.result z c.in_ok-choose_in.field-0) places_are
     (subst (λ (z : Path). ChoosesTo g.P.Primitive.meaning c.args.dump.now c.args.p.now c.args.wanted c.args.chain z c.eq-by_policy.result chosen.0 c.in_ok-choose_in.field-0) empty (chosen.2 c.args.p.now c.args.wanted right)))

@@ -7,4 +7,4 @@ filter_of-requires g c =
     let asked = c.in_ok-dump.field-0 in
     let known = c.in_ok-dump.ensures in
     let built_in = built_in_name g.F.Family.Reads c.args.text.now asked.dump known.asked.0 asked.chain c.args.name.now asked.policy known.chain in
-    (omega arith, (c.requires.width, (known.room, (known.named, (built_in, (known.printable, known.chain))))))
+    (omega arith, (c.requires.width, (known.room, (known.named, (built_in, (known.printable, (known.chain, known.policy)))))))

@@ -1,11 +1,11 @@
 -- A generated dump has few bytes: each of its lines has fewer than 2,000.
-use Rattle.std.proofs.Common.{rules, ◌≤◌, ◌<◌, ◌+◌, ◌*◌, ◌/◌, ◌%◌, ◌==◌, ◌++◌, ◌∷◌, [], ℕ, zero, suc, Bool, true, false, List, arith, codes, decimal, length, length-append, subst, if◌then◌else◌}
+use Rattle.std.proofs.Common.{rules, ◌≤◌, ◌<◌, ◌+◌, ◌*◌, ◌/◌, ◌%◌, ◌==◌, ◌++◌, ◌∷◌, [], ℕ, zero, suc, Bool, true, false, List, arith, codes, decimal, length, length-append, if◌then◌else◌}
 use Rattle.std.proofs.lemmas.Fmt.{length-decimal-le_succ}
-use Rattle.simple_filter.specs.declared.refusal.Refusal.{Refusal}
+use Rattle.limits.specs.declared.TheConstants.{MOST_BYTES}
 use Rattle.load_dump.specs.Generated.{head_text, load_text, rule_lines, rule_text}
 use Rattle.fffuu_run.specs.Answers.{ipv4_of}
-use Rattle.fffuu_run.specs.Loads.{RefusesSummary}
-use Rattle.fffuu_run.proofs.LoadCauses.{looped_summary}
+use Rattle.fffuu_run.specs.Loads.{IsLoadOver}
+use Rattle.fffuu_run.proofs.Refusals.{loop_there}
 use Rattle.fffuu_run.proofs.loading.load_summary.Goals as goal
 
 -- a text that is one of two is no longer than the longer one
@@ -31,7 +31,7 @@ lines_size (suc n) few =
     let rule : length (rule_text n) ≤ 1999 = rule_size n (omega arith) in
     omega (arith, before, rule, length-append (rule_lines n) (rule_text n ++ 10 ∷ []), length-append (rule_text n) (10 ∷ []))
 
-load_size : (n : ℕ) → n ≤ 1000 → length (load_text n) ≤ 16777216
+load_size : (n : ℕ) → n ≤ 1000 → length (load_text n) ≤ MOST_BYTES
 unfolding load_text
 load_size n few =
     let lines : length (rule_lines n) ≤ 2000 * n = lines_size n few in
@@ -43,6 +43,6 @@ question-requires c = (omega arith, (search rules, rw (c.deref.ensures.value, c.
 pub told-requires : goal.told-requires
 told-requires c = (
   omega arith,
-  λ looped is. looped_summary ipv4_of c.args.name.now c.in_ok-dump.field-0.dump c.in_ok-dump.field-0.chain looped
-      (subst (λ (x : Refusal). RefusesSummary ipv4_of c.args.name.now c.in_ok-dump.field-0.dump c.in_ok-dump.field-0.chain x) is c.in-Err.ensures.refused),
+  λ looped is. loop_there c.in_ok-dump.field-0.dump c.in_ok-dump.field-0.chain
+      (IsLoadOver ipv4_of c.args.name.now c.in_ok-dump.field-0.dump c.in_ok-dump.field-0.chain) _ c.in-Err.ensures.refused looped is,
 )

@@ -1,11 +1,12 @@
 use Rattle.std.proofs.Common.{◌∙◌, ap, arith, subst, sym}
 use Rattle.std.proofs.lemmas.Result.{err_from_is_err_and}
-use Rattle.closure.specs.declared.sides.Side.{Side}
+use Rattle.fw_rule.specs.declared.side.Side.{Side}
 use Rattle.simple_filter.specs.Closed.{Accepts}
 use Rattle.simple_filter.specs.Hidden.{hidden}
 use Rattle.simple_filter.specs.declared.hiding.Hide.{Hide}
 use Rattle.fffuu_run.specs.Spoofing.{set_of}
-use Rattle.fffuu_run.proofs.SpoofLemmas.{next_verdict, refused_one}
+use Rattle.fffuu_run.proofs.SpoofCauses.{refused_one, searched_comes, verdicts_within}
+use Rattle.fffuu_run.proofs.SpoofLemmas.{next_verdict}
 use Rattle.fffuu_run.proofs.spoofing.verdicts_of.Goals as goal
 
 pub verdict-requires : goal.verdict-requires
@@ -19,13 +20,24 @@ verdict-requires g c =
       ),
     )
 
+pub returns-in_err-rules-clause-refused : goal.returns-in_err-rules-clause-refused
+returns-in_err-rules-clause-refused g c =
+    let refused = searched_comes c.args.dump.now c.args.chain c.args.claims.now c.in_err-rules.field-0.0 c.in_err-rules.ensures.refused in
+    let p = err_from_is_err_and c.from_residual.result c.from_residual.ensures.1 in
+    rw (p.1, p.2) refused
+
 pub returns-in_err-found-clause-refused : goal.returns-in_err-found-clause-refused
 returns-in_err-found-clause-refused g c =
-    let told = refused_one c.args.dump.now c.args.chain c.args.claims.now c.loop-claim.claim-index c.claim-item.result c.loop-claim-test.true c.claim-item.is
+    let refused = refused_one c.args.dump.now c.args.chain c.args.claims.now c.loop-claim.claim-index c.claim-item.result c.loop-claim-test.true c.claim-item.is
     c.as_slice-name.result.now c.in_ok-inside.inside c.as_slice-name.ensures (c.in_ok-inside.ensures ∙ ap (set_of g.row.W) c.as_slice.ensures)
     c.in_err-found.field-0.0 c.in_err-found.ensures.regions c.in_err-found.ensures.refused in
     let p = err_from_is_err_and c.from_residual-in_err-found.result c.from_residual-in_err-found.ensures.1 in
-    rw (p.1, p.2) told
+    rw (p.1, p.2) refused
+
+pub returns-clause-within : goal.returns-clause-within
+returns-clause-within g c =
+    verdicts_within c.args.dump.now c.args.chain c.args.claims.now c.loop-claim.claim-index (omega (arith, c.loop-claim-test.false))
+    g.F.Family.text_of c.loop-claim.text.items c.in_ok-rules.ensures.closed c.loop-claim.invariant
 
 pub loop-claim-preserved : goal.loop-claim-preserved
 loop-claim-preserved g c =

@@ -1,5 +1,5 @@
 use Rattle.std.proofs.Common.{ℕ, List, ◌<◌, ◌≡◌, length, get_or, subst, rules, IsTrue}
-use Rattle.ip_partition.specs.Atoms.{is_in}
+use Rattle.ip_partition.specs.inner.Atoms.{is_in}
 use Rattle.ip_partition.proofs.Runs.{closed_more}
 use Rattle.ip_partition.proofs.atoms.are_closed.Goals as goal
 

@@ -1,5 +1,5 @@
 use Rattle.std.proofs.Common.{ℕ, ◌<◌, ◌≡◌, ◌||◌, ◌&&◌, length, get_or, false, nat_lt}
-use Rattle.ip_partition.specs.Atoms.{is_in}
+use Rattle.ip_partition.specs.inner.Atoms.{is_in}
 use Rattle.ip_partition.proofs.atoms.mark.Given as goal
 
 abbrev pub invariant-loop-atom : goal.invariant-loop-atom

@@ -1,6 +1,6 @@
 use Rattle.std.proofs.Common.{◌∙◌, ap}
 use Rattle.std.proofs.lemmas.Result.{err_from_is_err_and}
-use Rattle.ip_partition.specs.Starts.{ends, starts_of, with_numbers}
+use Rattle.ip_partition.specs.inner.Starts.{ends, starts_of, with_numbers}
 use Rattle.ip_partition.proofs.Filling.{set_filled, set_passed}
 use Rattle.ip_partition.proofs.boundaries.atom_starts.Goals as goal
 

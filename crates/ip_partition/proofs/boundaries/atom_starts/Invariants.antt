@@ -1,6 +1,6 @@
 use Rattle.std.proofs.Common.{drop}
 use Rattle.std.specs.List.{flat_map}
-use Rattle.ip_partition.specs.Starts.{ends, starts_of}
+use Rattle.ip_partition.specs.inner.Starts.{ends, starts_of}
 use Rattle.ip_partition.proofs.Filling.{Fills}
 use Rattle.ip_partition.proofs.boundaries.atom_starts.Given as goal
 

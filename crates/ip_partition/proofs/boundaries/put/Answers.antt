@@ -2,8 +2,8 @@ use Rattle.std.proofs.Common.{◌∙◌, sym, arith}
 use Rattle.ip_partition.proofs.Placing.{absent, absent_longer, found}
 use Rattle.ip_partition.proofs.boundaries.put.Goals as goal
 
-pub returns-then-len-eq-MOST_ATOMS-clause-refused : goal.returns-then-len-eq-MOST_ATOMS-clause-refused
-returns-then-len-eq-MOST_ATOMS-clause-refused c =
+pub returns-then-len-gt-MOST_BOUNDARIES-clause-refused : goal.returns-then-len-gt-MOST_BOUNDARIES-clause-refused
+returns-then-len-gt-MOST_BOUNDARIES-clause-refused c =
     let e = absent_longer c.args.starts.now.items c.deref.result.now c.args.start c.in-Err.at c.deref.ensures.value c.requires.ascend c.in-Err.ensures.position in
     omega (arith, e)
 

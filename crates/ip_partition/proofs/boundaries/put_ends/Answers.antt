@@ -1,7 +1,7 @@
 use Rattle.std.proofs.Common.{sym, subst, List, ℕ}
 use Rattle.std.proofs.lemmas.Result.{err_from_is_err_and}
 use Rattle.ip_partition.specs.Boundaries.{Ascend}
-use Rattle.ip_partition.specs.Starts.{ends, with_numbers}
+use Rattle.ip_partition.specs.inner.Starts.{ends, with_numbers}
 use Rattle.ip_partition.proofs.Filling.{ascend_with, filled, passed_high, passed_low}
 use Rattle.ip_partition.proofs.boundaries.put_ends.Goals as goal
 

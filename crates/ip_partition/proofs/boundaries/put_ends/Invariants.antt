@@ -1,5 +1,5 @@
 use Rattle.std.proofs.Common.{drop}
-use Rattle.ip_partition.specs.Starts.{ends, with_numbers}
+use Rattle.ip_partition.specs.inner.Starts.{ends, with_numbers}
 use Rattle.ip_partition.proofs.Filling.{Fills}
 use Rattle.ip_partition.proofs.boundaries.put_ends.Given as goal
 

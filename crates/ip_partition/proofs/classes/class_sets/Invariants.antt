@@ -1,4 +1,4 @@
-use Rattle.ip_partition.specs.Classes.{AreClasses}
+use Rattle.ip_partition.specs.inner.Classes.{AreClasses}
 use Rattle.ip_partition.proofs.classes.class_sets.Given as goal
 
 abbrev pub invariant-loop-atom : goal.invariant-loop-atom

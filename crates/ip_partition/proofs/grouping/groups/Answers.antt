@@ -3,7 +3,7 @@ use Rattle.std.proofs.lemmas.Result.{err_from_is_err_and}
 use Rattle.std.specs.List.{AllByRecursion}
 use Rattle.interval_set.specs.declared.set.Range.{Range}
 use Rattle.interval_set.specs.Numbers.{IsSet}
-use Rattle.ip_partition.specs.Classes.{AreClasses}
+use Rattle.ip_partition.specs.inner.Classes.{AreClasses}
 use Rattle.ip_partition.proofs.GroupLaws.{are_groups, few_boundaries, refused, starts_at}
 use Rattle.ip_partition.proofs.grouping.groups.Goals as goal
 

@@ -1,6 +1,7 @@
 use Rattle.std.proofs.Common.{[], refl}
 use Rattle.request.specs.Arguments.{IsPart}
-use Rattle.request.proofs.PartingLemmas.{comma_parts, parts_at, parts_last}
+use Rattle.basics.specs.Parts.{comma_parts}
+use Rattle.basics.proofs.PartingLemmas.{parts_at, parts_last}
 use Rattle.request.proofs.ReadingLemmas.{handed_on, passed, refused, whole}
 use Rattle.request.proofs.claims.ranges_of.Goals as goal
 

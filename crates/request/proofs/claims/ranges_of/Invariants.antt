@@ -1,7 +1,7 @@
 use Rattle.std.proofs.Common.{length}
 use Rattle.interval_set.specs.declared.set.Range.{Range}
 use Rattle.request.specs.Arguments.{IsPart}
-use Rattle.request.proofs.PartingLemmas.{comma_parts}
+use Rattle.basics.specs.Parts.{comma_parts}
 use Rattle.request.proofs.ReadingLemmas.{SoFar}
 use Rattle.request.proofs.claims.ranges_of.Given as goal
 

@@ -1,5 +1,5 @@
 use Rattle.std.proofs.Common.{◌≡◌, codes, rules}
-use Rattle.closure.specs.declared.sides.Side.{Side}
+use Rattle.fw_rule.specs.declared.side.Side.{Side}
 use Rattle.service_packet.specs.declared.service.Service.{Service}
 use Rattle.request.specs.Lines.{line_parts}
 use Rattle.request.specs.Requests.{AsksMatrix}

@@ -1,5 +1,5 @@
 use Rattle.std.proofs.Common.{◌≡◌, take}
-use Rattle.service_matrix.specs.Classes.{addresses_of}
+use Rattle.service_matrix.specs.inner.Classes.{addresses_of}
 use Rattle.service_matrix.proofs.classes.addresses.Given as goal
 
 abbrev pub invariant-loop-class : goal.invariant-loop-class

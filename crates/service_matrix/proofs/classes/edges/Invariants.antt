@@ -1,5 +1,5 @@
 use Rattle.std.proofs.Common.{◌≡◌, map, take}
-use Rattle.service_matrix.specs.Classes.{edge_row}
+use Rattle.service_matrix.specs.inner.Classes.{edge_row}
 use Rattle.service_matrix.proofs.classes.edges.Given as goal
 
 abbrev pub invariant-loop-class : goal.invariant-loop-class

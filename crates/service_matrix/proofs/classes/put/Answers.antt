@@ -1,6 +1,6 @@
 use Rattle.std.proofs.Common.{List, subst}
 use Rattle.service_matrix.specs.declared.classes.Class.{Class}
-use Rattle.service_matrix.specs.Classes.{HasSameAt}
+use Rattle.service_matrix.specs.inner.Classes.{HasSameAt}
 use Rattle.service_matrix.proofs.Joins.{put_at}
 use Rattle.service_matrix.proofs.classes.put.Goals as goal
 

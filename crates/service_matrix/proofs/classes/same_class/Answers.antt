@@ -1,5 +1,5 @@
 use Rattle.std.proofs.Common.{arith}
-use Rattle.service_matrix.specs.Classes.{Differ}
+use Rattle.service_matrix.specs.inner.Classes.{Differ}
 use Rattle.service_matrix.proofs.Joins.{each_passed}
 use Rattle.service_matrix.proofs.classes.same_class.Goals as goal
 use Rattle.service_matrix.proofs.classes.same_class.Goals.{else-same-via-then-same+else-same-2, else-same-via-else-same}

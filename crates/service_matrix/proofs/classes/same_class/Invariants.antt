@@ -1,6 +1,6 @@
 use Rattle.std.proofs.Common.{drop}
 use Rattle.std.specs.List.{AllByRecursion}
-use Rattle.service_matrix.specs.Classes.{Differ}
+use Rattle.service_matrix.specs.inner.Classes.{Differ}
 use Rattle.service_matrix.proofs.classes.same_class.Given as goal
 
 abbrev pub invariant-loop-at : goal.invariant-loop-at

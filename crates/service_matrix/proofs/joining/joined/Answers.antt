@@ -1,8 +1,8 @@
 use Rattle.std.proofs.Common.{ℕ, Bool, List, [], subst, sym, arith}
 use Rattle.std.specs.List.{AllByRecursion}
 use Rattle.box_norm.specs.declared.cube.SimpleRule.{SimpleRule}
-use Rattle.service_matrix.specs.Classes.{AreClasses, IsGroup}
-use Rattle.service_matrix.specs.Passes.{AnswerAlike}
+use Rattle.service_matrix.specs.inner.Classes.{AreClasses, IsGroup}
+use Rattle.service_matrix.specs.inner.Passes.{AnswerAlike}
 use Rattle.service_matrix.proofs.Passes.{over_ok, same_accepted}
 use Rattle.service_matrix.proofs.joining.joined.Goals as goal
 

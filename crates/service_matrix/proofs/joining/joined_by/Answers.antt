@@ -1,8 +1,9 @@
 use Rattle.std.proofs.Common.{◌+◌, List, drop, subst}
+use Rattle.std.proofs.lemmas.List.{drop_all}
 use Rattle.interval_set.specs.declared.set.Range.{Range}
-use Rattle.service_matrix.specs.Classes.{AreClasses}
+use Rattle.service_matrix.specs.inner.Classes.{AreClasses}
 use Rattle.service_matrix.specs.Services.{accepts_service}
-use Rattle.service_matrix.proofs.Joins.{drop_at, drop_past, one_more}
+use Rattle.service_matrix.proofs.Joins.{drop_at, one_more}
 use Rattle.service_matrix.proofs.joining.joined_by.Goals as goal
 
 pub loop-group-preserved : goal.loop-group-preserved
@@ -16,4 +17,4 @@ loop-group-preserved g c =
 pub returns : goal.returns
 returns g c =
     subst (λ (z : List (List Range)). AreClasses (accepts_service c.args.rules.now c.args.policy c.args.service.now) c.args.groups.now z c.loop-group.classes.items)
-    (drop_past c.args.groups.now c.loop-group.group-index c.loop-group-test.false) c.loop-group.invariant
+    (drop_all c.loop-group.group-index c.args.groups.now c.loop-group-test.false) c.loop-group.invariant

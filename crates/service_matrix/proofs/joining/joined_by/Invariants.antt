@@ -1,5 +1,5 @@
 use Rattle.std.proofs.Common.{drop}
-use Rattle.service_matrix.specs.Classes.{AreClasses}
+use Rattle.service_matrix.specs.inner.Classes.{AreClasses}
 use Rattle.service_matrix.specs.Services.{accepts_service}
 use Rattle.service_matrix.proofs.joining.joined_by.Given as goal
 

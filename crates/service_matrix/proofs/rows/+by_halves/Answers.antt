@@ -1,6 +1,6 @@
 use Rattle.std.proofs.Common.{List, ◌/◌, length, subst}
 use Rattle.box_norm.specs.declared.cube.SimpleRule.{SimpleRule}
-use Rattle.service_matrix.specs.Passes.{Tells}
+use Rattle.service_matrix.specs.inner.Passes.{Tells}
 use Rattle.service_matrix.proofs.Passes.{both_tell, first_tells}
 use Rattle.service_matrix.proofs.rows.+by_halves.Goals as goal
 

@@ -1,5 +1,5 @@
 use Rattle.std.proofs.Common.{drop}
-use Rattle.service_matrix.specs.Passes.{StandAlike}
+use Rattle.service_matrix.specs.inner.Passes.{StandAlike}
 use Rattle.service_matrix.proofs.rows.alike.Given as goal
 
 abbrev pub invariant-loop-rule : goal.invariant-loop-rule

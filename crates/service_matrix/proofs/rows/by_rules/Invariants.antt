@@ -1,6 +1,6 @@
 use Rattle.std.proofs.Common.{◌≡◌, ℕ, ◌^◌, nat_lt, ◌&&◌, Bool, unwrap_or, drop}
 use Rattle.box_norm.specs.Normal.{first_of}
-use Rattle.service_matrix.specs.Passes.{packet_at}
+use Rattle.service_matrix.specs.inner.Passes.{packet_at}
 use Rattle.service_matrix.proofs.Passes.{left}
 use Rattle.service_matrix.proofs.rows.by_rules.Given as goal
 

@@ -1,6 +1,6 @@
 use Rattle.std.proofs.Common.{◌≡◌, ◌++◌, map, drop}
 use Rattle.match_expr.specs.Primitives.{joined}
-use Rattle.service_matrix.specs.AddressSets.{expr_sets}
+use Rattle.service_matrix.specs.inner.AddressSets.{expr_sets}
 use Rattle.service_matrix.proofs.sets.+push_expr.Given as goal
 
 abbrev pub invariant-loop-part : goal.invariant-loop-part

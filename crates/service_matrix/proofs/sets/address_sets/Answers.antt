@@ -1,6 +1,6 @@
 use Rattle.std.proofs.Common.{◌≡◌, ◌∙◌, ◌↔◌, true, false, List, Contains, ap, subst, sym, arith}
 use Rattle.interval_set.specs.declared.set.Range.{Range}
-use Rattle.service_matrix.specs.AddressSets.{IsSetBefore}
+use Rattle.service_matrix.specs.inner.AddressSets.{IsSetBefore}
 use Rattle.service_matrix.proofs.Sources.{are_sets, marked_at, more_sets, passed_over}
 use Rattle.service_matrix.proofs.sets.address_sets.Goals as goal
 use Rattle.service_matrix.proofs.sets.address_sets.Goals.{then-index+in_ok-push_rules, else-index}

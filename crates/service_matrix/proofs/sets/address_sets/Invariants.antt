@@ -1,6 +1,6 @@
 use Rattle.std.proofs.Common.{◌↔◌, List, Contains}
 use Rattle.interval_set.specs.declared.set.Range.{Range}
-use Rattle.service_matrix.specs.AddressSets.{IsSetBefore}
+use Rattle.service_matrix.specs.inner.AddressSets.{IsSetBefore}
 use Rattle.service_matrix.proofs.sets.address_sets.Given as goal
 
 abbrev pub invariant-loop-next : goal.invariant-loop-next

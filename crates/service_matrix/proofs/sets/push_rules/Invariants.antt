@@ -1,6 +1,6 @@
 use Rattle.std.proofs.Common.{◌≡◌, ◌++◌, map, drop}
 use Rattle.match_expr.specs.Primitives.{joined}
-use Rattle.service_matrix.specs.AddressSets.{all_sets, rule_sets}
+use Rattle.service_matrix.specs.inner.AddressSets.{all_sets, rule_sets}
 use Rattle.service_matrix.proofs.sets.push_rules.Given as goal
 
 abbrev pub invariant-loop-rule : goal.invariant-loop-rule

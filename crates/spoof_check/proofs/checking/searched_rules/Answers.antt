@@ -2,8 +2,8 @@ use Rattle.std.proofs.Common.{IfErr, rules, subst}
 use Rattle.std.proofs.lemmas.Result.{IfOk-weaker}
 use Rattle.primitives.specs.declared.prim.Prim_.{Prim_}
 use Rattle.fw_rule.specs.declared.rule.Dump.{Dump}
-use Rattle.closure.specs.declared.sides.Side.{Side}
-use Rattle.simple_filter.specs.Closed.{Refuses}
+use Rattle.fw_rule.specs.declared.side.Side.{Side}
+use Rattle.simple_filter.specs.Closed.{RefusesClosed}
 use Rattle.spoof_check.proofs.ForgedLemmas.{meaning_there, named_there, policy_there, room_there}
 use Rattle.spoof_check.proofs.checking.searched_rules.Goals as goal
 
@@ -32,4 +32,4 @@ returns-clause-meaning g c =
     IfOk-weaker c.closed.result _ _ (λ rules h. meaning_there c.args.dump.now c.hiding_keeps_calls.ensures c.args.chain c.in_ok-hidden.hidden c.in_ok-hidden.ensures rules h) c.closed.ensures.meaning
 
 pub returns-clause-refused : goal.returns-clause-refused
-returns-clause-refused g c = subst (λ (d : Dump (Prim_ g.row.W)). IfErr c.closed.result (Refuses d c.args.chain Side.Upper)) c.in_ok-hidden.ensures c.closed.ensures.refused
+returns-clause-refused g c = subst (λ (d : Dump (Prim_ g.row.W)). IfErr c.closed.result (RefusesClosed d c.args.chain Side.Upper)) c.in_ok-hidden.ensures c.closed.ensures.refused

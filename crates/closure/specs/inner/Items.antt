@@ -1,0 +1,17 @@
+-- The items of a chain's rules from one of them on.
+use Rattle.std.specs.Prelude.{ℕ, ◌-◌, drop}
+use Rattle.fw_rule.specs.declared.rule.Dump.{Dump}
+use Rattle.closure.specs.declared.modes.Mode.{Mode}
+use Rattle.closure.specs.declared.modes.Mode.TheVariants.{Hard, Soft}
+use Rattle.closure.specs.declared.modes.RulesFrom.{RulesFrom}
+use Rattle.fw_rule.specs.declared.side.Side.{Side}
+use Rattle.closure.specs.Rewriting.{Tree, items, rules_of, tree}
+
+-- the items of these rules in their mode
+abbrev pub items_from : {P : Type 0} → Side → Dump P → RulesFrom → Tree P
+items_from side dump r = items side (tree side dump (r.depth - 1)) (drop r.first (rules_of dump r.chain)) r.mode
+
+-- how many enclosing blocks a bad verdict leaves beyond its own
+abbrev pub level : Mode → ℕ
+level Hard = 0
+level (Soft j) = j

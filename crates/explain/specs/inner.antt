@@ -1,0 +1,4 @@
+-- What the bodies alone work with. No public clause cites it.
+pub mod Reaching
+pub mod Views
+pub mod Choosing

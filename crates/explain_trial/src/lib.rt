@@ -1,0 +1,5 @@
+//! Tries explanations on small dumps.
+#![tactic(auto)]
+
+#[cfg(test)]
+mod tests;

@@ -1,0 +1,2 @@
+-- What the contracts of private functions say. No public contract cites it.
+pub mod Hits

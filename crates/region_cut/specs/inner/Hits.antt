@@ -1,0 +1,36 @@
+-- What the parts of the search answer.
+use Rattle.std.specs.Prelude.{ℕ, ◌≡◌, ◌<◌, false, true, List, Option, None, Some, length}
+use Rattle.limits.specs.declared.TheConstants.{MOST_REGIONS}
+use Rattle.primitives.specs.declared.prim.Packet.{Packet}
+use Rattle.primitives.specs.Holds.{IsValid}
+use Rattle.box_norm.specs.declared.cube.Cube.{Cube}
+use Rattle.box_norm.specs.Cubes.{any_holds, each_piece, holds_cube}
+use Rattle.box_norm.specs.Overlaps.{minus_of}
+use Rattle.region_cut.specs.declared.fault.RegionFault.{RegionFault}
+use Rattle.region_cut.specs.Least.{AreApart, IsHit, IsLeastPacket}
+use Rattle.region_cut.specs.Search.{AllApart, IsFirstHit}
+
+module _ {W : ℕ} where
+  -- the least packet of the cube, which is valid, or no valid packet is in it
+  abbrev pub IsLeastOf : Cube W → Option Packet → Type 0
+  IsLeastOf c None = (p : Packet) → IsValid W p → holds_cube c p ≡ false
+  IsLeastOf c (Some p) = IsLeastPacket c p × IsValid W p
+
+  -- what the search in one region answers
+  abbrev pub HitsOne : Cube W → Cube W → Option Packet → Type 0
+  HitsOne region cube None = AreApart region cube
+  HitsOne region cube (Some p) = IsHit region cube p
+
+  -- what the search in several regions answers
+  abbrev pub HitsFirst : List (Cube W) → Cube W → Option Packet → Type 0
+  HitsFirst regions cube None = AllApart regions cube
+  HitsFirst regions cube (Some p) = IsFirstHit regions cube p
+
+  -- no valid packet of the parts is outside the region
+  abbrev pub AreParts : Cube W → List (Cube W) → Type 0
+  AreParts region parts = (p : Packet) → IsValid W p → any_holds parts p ≡ true → holds_cube region p ≡ true
+
+  -- the pieces without the cube are too many. Want of memory tells nothing
+  abbrev pub LeavesMany : List (Cube W) → Cube W → RegionFault → Type 0
+  LeavesMany regions cube RegionFault.Regions = MOST_REGIONS < length (each_piece (λ c. minus_of c cube) regions)
+  LeavesMany regions cube RegionFault.Memory = Unit {0}

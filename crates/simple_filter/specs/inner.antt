@@ -1,0 +1,2 @@
+-- What the bodies alone work with. No public clause cites it.
+pub mod Collected

@@ -1,0 +1,5 @@
+//! Tries hiding and the closing of chains on small dumps.
+#![tactic(auto)]
+
+#[cfg(test)]
+mod tests;
