@@ -40,6 +40,13 @@ KINDS = [Kind("known", True, False, False), Kind("states", True, True, False), K
 STATE_BITS = {"INVALID": 0x20, "NEW": 0x40, "RELATED": 0x60, "ESTABLISHED": 0x80, "UNTRACKED": 0xA0}
 
 
+PROBE = """*filter
+:FORWARD ACCEPT [0:0]
+-A FORWARD -p tcp -m multiport --dports 1,2 -m conntrack --ctstate NEW -m comment --comment probe -j ACCEPT
+COMMIT
+"""
+
+
 class Comparison:
     def __init__(self, program, lab, seed, count):
         self.program, self.lab, self.seed, self.count = program, lab, seed, count
@@ -57,7 +64,12 @@ class Comparison:
             print(f"difference: {what} ({case})\n  packet {' '.join(packet.fields()) if packet else 'none'}")
 
     def passing(self, packets):
-        return [it is not None for it in self.lab.forwarded(packets)]
+        """Whether each packet comes out. A frame that was lost on the way was not dropped, so what doesn't come is sent again."""
+        passed = [it is not None for it in self.lab.forwarded(packets)]
+        missing = [at for at, it in enumerate(passed) if not it]
+        for at, frame in zip(missing, self.lab.forwarded([packets[at] for at in missing])):
+            passed[at] = frame is not None
+        return passed
 
     def sent(self, packets):
         """Those of the packets that the router forwards at all."""
@@ -229,6 +241,18 @@ def matrix_of(text):
     return classes, {tuple(int(it) for it in line.split()) for line in lines[count + 2:]}
 
 
+def refused(lab):
+    """Why a tool doesn't load here what every dump of the comparison may hold, or None."""
+    for tool in TOOLS:
+        for family in (4, 6):
+            try:
+                lab.restore(tool, family, PROBE)
+                lab.clear(tool, family)
+            except Refused as refusal:
+                return f"{tool}, IPv{family}: {(str(refusal).splitlines() or ['no cause told'])[0]}"
+    return None
+
+
 def main():
     parser = argparse.ArgumentParser(description="Holds the answers of the program against the kernel's filter.")
     parser.add_argument("program")
@@ -241,6 +265,10 @@ def main():
         print(f"kernel: left out, since {why}")
         return 0
     with Lab() as lab:
+        why = refused(lab)
+        if why:
+            print(f"kernel: left out, since this kernel doesn't take what is compared: {why}")
+            return 0
         compared = Comparison(words.program, lab, words.seed, words.packets)
         spellings.compare(compared)
         borders.compare(compared)
