@@ -10,6 +10,3 @@ pub use names::shown;
 pub use packets::packet_text;
 pub use places::place_text;
 pub use ranges::ranges_text;
-
-#[cfg(test)]
-mod tests;

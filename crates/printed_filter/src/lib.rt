@@ -17,6 +17,3 @@ pub fn means_its_rules<const W: u32>(chain: &[u8], policy: Verdict, rules: &[Sim
     flags_are_kept();
     ports_are_kept();
 }
-
-#[cfg(test)]
-mod tests;

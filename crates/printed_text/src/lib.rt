@@ -34,6 +34,3 @@ pub fn is_read_back<F: Family<W>, const W: u32>(
     let _ = policy;
     let _ = rules;
 }
-
-#[cfg(test)]
-mod tests;

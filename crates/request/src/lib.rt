@@ -16,6 +16,3 @@ mod types;
 pub use laws::one_request;
 pub use spelling::spell;
 pub use types::{Claim, Mode, Request, SpellFault};
-
-#[cfg(test)]
-mod tests;

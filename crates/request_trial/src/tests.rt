@@ -1,8 +1,8 @@
-use super::*;
 use fw_rule::Side;
 use interval_set::Range;
 use match_expr::List;
 use primitives::Packet;
+use request::{Claim, Mode, Request, SpellFault, one_request, spell};
 use service_packet::Service;
 use std::alloc::{AllocError, Global};
 use std::test::Fail;
@@ -179,7 +179,7 @@ fn other_fields_are_refused(rt: HostRuntime) -> Result<(), Fail> {
 }
 
 // The request of the words between the spaces of a line.
-fn request(alloc: Global, line: &str) -> Result<Request, SpellFault> {
+fn request_of(alloc: Global, line: &str) -> Result<Request, SpellFault> {
     let mut words = Vec::new(alloc);
     for word in line.split(' ') {
         words.push(String::from_str(alloc, word)?)?;
@@ -189,12 +189,12 @@ fn request(alloc: Global, line: &str) -> Result<Request, SpellFault> {
 
 // Whether the words between the spaces of a line spell no request.
 fn is_refused(alloc: Global, line: &str) -> bool {
-    matches!(request(alloc, line), Err(SpellFault::Usage))
+    matches!(request_of(alloc, line), Err(SpellFault::Usage))
 }
 
 // The service and the side of a matrix.
 fn matrix(alloc: Global, line: &str) -> Result<(Service, Side), SpellFault> {
-    let Request { mode, .. } = request(alloc, line)?;
+    let Request { mode, .. } = request_of(alloc, line)?;
     match mode {
         Mode::Matrix { service, side } => Ok((service, side)),
         _ => Err(SpellFault::Usage),
@@ -245,7 +245,7 @@ fn other_services_and_sides_are_refused(rt: HostRuntime) -> Result<(), Fail> {
 
 // The claims of a check of sources.
 fn claims(alloc: Global, line: &str) -> Result<List<Claim>, SpellFault> {
-    let Request { mode, .. } = request(alloc, line)?;
+    let Request { mode, .. } = request_of(alloc, line)?;
     match mode {
         Mode::Spoof(claims) => Ok(claims),
         _ => Err(SpellFault::Usage),
@@ -332,7 +332,7 @@ fn other_claims_are_refused(rt: HostRuntime) -> Result<(), Fail> {
 #[test]
 fn a_load_has_a_number_alone(rt: HostRuntime) -> Result<(), Fail> {
     for (line, wanted) in [("load 1", 1), ("load 5", 5), ("load 1000", 1000)] {
-        let Request { mode, .. } = request(rt.alloc(), line)?;
+        let Request { mode, .. } = request_of(rt.alloc(), line)?;
         assert!(rt;
             matches!(mode, Mode::Load(count) if count == wanted),
             "at {line}"

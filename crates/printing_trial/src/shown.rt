@@ -1,6 +1,6 @@
-use super::*;
 use addr_text::V4;
 use fw_rule::{Chain, Dump, Place, Step};
+use fw_text::{packet_text, place_text, ranges_text, shown};
 use interval_set::Set;
 use match_expr::{Bytes, List, Primitive};
 use primitives::{Packet, valid};

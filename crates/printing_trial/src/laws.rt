@@ -3,19 +3,22 @@ ghost use Rattle.name_set.specs.declared.pattern.Pattern.{Pattern};
 ghost use Rattle.dump_print.specs.Helpers.{needs_helper};
 ghost use Rattle.printed_filter.specs.Laws.{ArePrintable};
 
-use super::*;
+use addr_text::V4;
 use box_norm::{SimpleRule, whole};
 use fw_rule::Verdict;
 use match_expr::{Bytes, List};
 use name_set::Pattern;
+use printed_filter::means_its_rules;
+use printed_text::is_read_back;
 use std::alloc::{AllocError, Global};
 use std::test::Fail;
 
 #[test]
-fn the_law_can_be_called_at_the_rule_of_all_packets(rt: HostRuntime) -> Result<(), Fail> {
+fn the_laws_can_be_called_at_the_rule_of_all_packets(rt: HostRuntime) -> Result<(), Fail> {
     let cube = whole::<32>(rt.alloc())?;
     let rules = [SimpleRule { cube, accept: true }];
     means_its_rules(b"INPUT", Verdict::Drop, &rules);
+    is_read_back::<V4, 32>(b"INPUT", Verdict::Drop, &rules);
     Ok(())
 }
 

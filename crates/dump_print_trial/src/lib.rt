@@ -1,5 +1,0 @@
-//! The tests of `dump_print`, in a crate of their own, so that it is proved once.
-#![tactic(auto)]
-
-#[cfg(test)]
-mod tests;
