@@ -6,6 +6,8 @@ import tempfile
 
 TOP = os.path.dirname(os.path.dirname(os.path.abspath(__file__)))
 MOST = 16_777_216
+# A run that takes longer ends with status 124.
+LONGEST = 120
 HEAD, TAIL = b"*filter\n:FORWARD DROP [0:0]\n", b"COMMIT\n"
 
 
@@ -32,7 +34,7 @@ def timed(program, words, text):
     with tempfile.TemporaryFile() as given:
         given.write(text)
         given.seek(0)
-        timer = ["/usr/bin/time", "-q", "-f", "%e %M"]
+        timer = ["/usr/bin/time", "-q", "-f", "%e %M", "timeout", str(LONGEST)]
         done = subprocess.run([*timer, program, *words], stdin=given, stdout=subprocess.DEVNULL, stderr=subprocess.PIPE)
     seconds, memory = done.stderr.split()[-2:]
     return done.returncode, float(seconds), int(memory) / 1024

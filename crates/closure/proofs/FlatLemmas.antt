@@ -77,7 +77,7 @@ drop_at [] n x e = cc
 drop_at (y ∷ xs) zero x e = let q : y ≡ x = cc in rw q refl
 drop_at (y ∷ xs) (suc n) x e = let q : suc (n + 1) ≡ suc n + 1 = omega arith in subst (λ (z : ℕ). drop n xs ≡ x ∷ drop z (y ∷ xs)) q (drop_at xs n x e)
 
-drop_past : {X : Type 0} (xs : List X) (n : ℕ) → length xs ≤ n → drop n xs ≡ []
+pub drop_past : {X : Type 0} (xs : List X) (n : ℕ) → length xs ≤ n → drop n xs ≡ []
 drop_past [] zero h = refl
 drop_past [] (suc n) h = refl
 drop_past (x ∷ xs) zero h = absurd (omega arith)

@@ -1,5 +1,5 @@
 -- The steps of the code that passes a chain's rules one after another.
-use Rattle.std.proofs.Common.{◌≡◌, ℕ, ◌+◌, ◌-◌, Bool, List, [], ◌∷◌, ◌++◌, drop, Some, slice_get, refl, sym, ◌∙◌, ap, subst, append-nil}
+use Rattle.std.proofs.Common.{◌≡◌, ℕ, ◌+◌, ◌-◌, Bool, List, [], ◌∷◌, ◌++◌, drop, Some, slice_get, refl, sym, ◌∙◌, ap, append-nil}
 use Rattle.match_expr.specs.declared.expr.Expr.{Expr}
 use Rattle.match_expr.specs.declared.expr.Expr.TheVariants.{Not}
 use Rattle.fw_rule.specs.declared.rule.Rule.{Rule}
@@ -13,6 +13,7 @@ use Rattle.closure.specs.declared.modes.RulesFrom.{RulesFrom}
 use Rattle.fw_rule.specs.declared.side.Side.{Side}
 use Rattle.closure.specs.Rewriting.{Tree, Leave, kind, row_of, shape, tree, rules_of}
 use Rattle.closure.specs.inner.Items.{items_from}
+use Rattle.closure.specs.inner.Skips.{HaveSame}
 use Rattle.closure.specs.Flat.{escape, carried, stayed, escapes}
 use Rattle.closure.specs.Stream.{cut_all, stream}
 use Rattle.closure.proofs.FlatLemmas.{items_at}
@@ -33,6 +34,16 @@ module _ {P S : Type 0} (cut : S → Expr P → S) (side : Side) (dump : Dump P)
       let states = rw over at h.states in
       let escapes = rw over at h.escapes in
       (sym (append-nil out) ∙ states, sym (append-nil found) ∙ escapes)
+
+  -- rules that are skipped
+  pub passed_over : (next next' : ℕ) (out : List (S × Bool)) (s : S) (past : List (Expr P)) (found : List (Escape P)) → HaveSame side (rules_of dump from.chain) from.mode next next' →
+      Completes next out s past found → Completes next' out s past found
+  passed_over next next' out s past found same h =
+      let e : items_from side dump (moved from next from.mode) ≡ items_from side dump (moved from next' from.mode) = same (tree side dump (from.depth - 1)) in
+      record {
+        states = ap (λ (z : Tree P). out ++ stream cut s z) (sym e) ∙ h.states;
+        escapes = ap (λ (z : Tree P). found ++ escapes past z) (sym e) ∙ h.escapes;
+      }
 
   module _ (next : ℕ) (rule : Rule P) (here : slice_get (rules_of dump from.chain) next ≡ Some rule) (e : Expr P) (e_is : e ≡ known_of rule)
       (out : List (S × Bool)) (s : S) (past : List (Expr P)) (found : List (Escape P)) (h : Completes next out s past found) where
@@ -87,69 +98,3 @@ module _ {P S : Type 0} (cut : S → Expr P → S) (side : Side) (dump : Dump P)
         out' o xs x s' z past' p found' f (states_here Row.LeaveLater is) (escapes_here Row.LeaveLater is) in
         let both = turn_left cut s' past' out' R found' E e (known_of rule) e_is 0 rest s'' z' past'' p' found'' f' block.0 block.1 out' refl in
         record { states = both.0; escapes = both.1 }
-
--- what a sink has been given in the middle of the rules, where it was `before` at first
-module _ {P S K : Type 0} (given : K → List (S × Bool) → Type 0) (cut : S → Expr P → S) (side : Side) (dump : Dump P) (from : RulesFrom) (before : K) (start : S) where
-  pub record Gave (next : ℕ) (k : K) (s : S) (past : List (Expr P)) (found : List (Escape P)) : Type 0 where
-    pub states : (xs : List (S × Bool)) → given before xs → (ys : List (S × Bool)) × given k ys × (ys ++ stream cut s (items_from side dump (moved from next from.mode)) ≡ xs ++ stream cut start (items_from side dump from))
-    pub escapes : found ++ escapes past (items_from side dump (moved from next from.mode)) ≡ escapes [] (items_from side dump from)
-
-  pub gave_none : Gave from.first before start [] []
-  gave_none = record { states = λ xs h. (xs, h, refl); escapes = refl }
-
-  -- a turn of the loop, from what it adds to any list
-  pub gave_more : (next next' : ℕ) (k k' : K) (s s' : S) (past past' : List (Expr P)) (found found' : List (Escape P)) (add : List (S × Bool) → List (S × Bool)) →
-      ((ys : List (S × Bool)) → given k ys → given k' (add ys)) →
-      ((R : List (S × Bool)) (ys : List (S × Bool)) → Completes cut side dump from R (escapes [] (items_from side dump from)) next ys s past found →
-      Completes cut side dump from R (escapes [] (items_from side dump from)) next' (add ys) s' past' found') →
-      Gave next k s past found → Gave next' k' s' past' found'
-  gave_more next next' k k' s s' past past' found found' add put turn h = record {
-    states = λ xs g. let y = h.states xs g in (add y.0, put y.0 y.1, (turn (xs ++ stream cut start (items_from side dump from)) y.0 (record { states = y.2; escapes = h.escapes })).states);
-    escapes = (turn (stream cut s (items_from side dump (moved from next from.mode))) [] (record { states = refl; escapes = h.escapes })).escapes;
-  }
-
-  pub gave_all : (next : ℕ) (k : K) (s : S) (past : List (Expr P)) (found : List (Escape P)) → drop next (rules_of dump from.chain) ≡ [] → Gave next k s past found →
-      ((xs : List (S × Bool)) → given before xs → given k (xs ++ stream cut start (items_from side dump from))) × (found ≡ escapes [] (items_from side dump from))
-  gave_all next k s past found over h = (
-    λ xs g. let y = h.states xs g in subst (given k)
-        (all_passed cut side dump from (xs ++ stream cut start (items_from side dump from)) (escapes [] (items_from side dump from)) next y.0 s past found over (record { states = y.2; escapes = h.escapes })).0 y.1,
-    (all_passed cut side dump from (stream cut s (items_from side dump (moved from next from.mode))) (escapes [] (items_from side dump from)) next [] s past found over (record { states = refl; escapes = h.escapes })).1,
-  )
-
-  -- a turn at a rule, by its row
-  module _ (next : ℕ) (rule : Rule P) (here : slice_get (rules_of dump from.chain) next ≡ Some rule) (e : Expr P) (e_is : e ≡ known_of rule)
-      (k : K) (s : S) (past : List (Expr P)) (found : List (Escape P)) (h : Gave next k s past found) where
-    abbrev RowIs : Row → Type 0
-    RowIs r = r ≡ row_of side (doubt_in rule.lits) (kind side rule.action) from.mode
-
-    abbrev all : List (Escape P)
-    all = escapes [] (items_from side dump from)
-
-    pub gave_skipped : RowIs Row.Skip → Gave (next + 1) k s past found
-    gave_skipped is = gave_more next (next + 1) k k s s past past found found (λ ys. ys) (λ ys g. g)
-        (λ R ys c. skipped cut side dump from R all next rule here e e_is ys s past found c is) h
-
-    pub gave_decided : (v : Bool) → RowIs (Row.Decide v) → (s' : S) → s' ≡ cut s e → (k' : K) →
-        ((ys : List (S × Bool)) → given k ys → given k' (ys ++ (s', v) ∷ [])) → Gave (next + 1) k' s past found
-    gave_decided v is s' z k' put = gave_more next (next + 1) k k' s s past past found found (λ ys. ys ++ (s', v) ∷ []) put
-        (λ R ys c. decided cut side dump from R all next rule here e e_is ys s past found c v is (ys ++ (s', v) ∷ []) (rw z refl)) h
-
-    pub gave_left : (n : ℕ) → RowIs (Row.Leave n) → (s' : S) → s' ≡ cut s (Not e) → (past' : List (Expr P)) → past' ≡ past ++ Not e ∷ [] →
-        (found' : List (Escape P)) → found' ≡ found ++ escape past n e [] → Gave (next + 1) k s' past' found'
-    gave_left n is s' z past' p found' f = gave_more next (next + 1) k k s s' past past' found found' (λ ys. ys) (λ ys g. g)
-        (λ R ys c. left cut side dump from R all next rule here e e_is ys s past found c n is s' z past' p found' f) h
-
-    -- a block, from what the calls say
-    module _ (code : Tree P) (inside : S) (i : inside ≡ cut s e) (k' : K) (put : (ys : List (S × Bool)) → given k ys → given k' (ys ++ stream cut inside code))
-        (xs : List (Escape P)) (x : xs ≡ escapes [] code) (s' : S) (z : s' ≡ cut_all cut s (stayed e xs))
-        (past' : List (Expr P)) (p : past' ≡ past ++ stayed e xs) (found' : List (Escape P)) (f : found' ≡ found ++ carried past e xs) where
-      pub gave_ran : (callee : ℕ) (inner : Mode) → RowIs (Row.Run callee inner) → tree side dump (from.depth - 1) callee inner ≡ code → Gave (next + 1) k' s' past' found'
-      gave_ran callee inner is code_is = gave_more next (next + 1) k k' s s' past past' found found' (λ ys. ys ++ stream cut inside code) put
-          (λ R ys c. ran cut side dump from R all next rule here e e_is ys s past found c callee inner is code code_is
-          (ys ++ stream cut inside code) (rw i refl) xs x s' z past' p found' f) h
-
-      pub gave_left_later : RowIs Row.LeaveLater → code ≡ items_from side dump (moved from (next + 1) (Soft 0)) → (s'' : S) → s'' ≡ cut s' (Not e) →
-          (past'' : List (Expr P)) → past'' ≡ past' ++ Not e ∷ [] → (found'' : List (Escape P)) → found'' ≡ found' ++ escape past' 0 e [] → Gave (next + 1) k' s'' past'' found''
-      gave_left_later is code_is s'' z' past'' p' found'' f' = gave_more next (next + 1) k k' s s'' past past'' found found'' (λ ys. ys ++ stream cut inside code) put
-          (λ R ys c. left_later cut side dump from R all next rule here e e_is ys s past found c is
-          (ys ++ stream cut inside code) (rw (i, code_is) refl) xs (x ∙ ap (escapes []) code_is) s' z past' p found' f s'' z' past'' p' found'' f') h

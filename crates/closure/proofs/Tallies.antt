@@ -16,6 +16,7 @@ use Rattle.fw_rule.specs.declared.side.Side.{Side}
 use Rattle.closure.specs.declared.tally.Way.{Way}
 use Rattle.closure.specs.Rewriting.{Tree, kind, row_of, tree, rules_of}
 use Rattle.closure.specs.inner.Items.{items_from}
+use Rattle.closure.specs.inner.Skips.{HaveSame}
 use Rattle.closure.specs.inner.Counts.{capped}
 use Rattle.closure.specs.Flat.{escape, carried, stayed, escapes}
 use Rattle.closure.specs.Stream.{cut_all, stream}
@@ -24,7 +25,7 @@ use Rattle.closure.specs.inner.Ways as ways
 use Rattle.closure.specs.inner.Ways.{way_of}
 use Rattle.closure.proofs.FlatLemmas.{escape_first}
 use Rattle.closure.proofs.Streams.{cut_append}
-use Rattle.closure.proofs.Passing.{Completes, moved, all_passed, skipped, decided, left, left_later, ran}
+use Rattle.closure.proofs.Passing.{Completes, moved, all_passed, passed_over, skipped, decided, left, left_later, ran}
 use Rattle.closure.proofs.TotalLemmas.{summed, together, together_append, count_not, count_behind, count_both, cut_literals}
 
 conditioned : (k a b : ℕ) → capped k ≡ capped a → capped (capped (k + capped b)) ≡ capped (a + b)
@@ -118,6 +119,16 @@ module _ {P : Type 0} (side : Side) (dump : Dump P) (from : RulesFrom) (around :
     found = [];
     completes = record { states = refl; escapes = refl };
     counts = record { past_is = refl; total_is = refl; ways_are = e };
+  }
+
+  -- rules that are skipped
+  pub tally_moved : (next next' p t : ℕ) (ws : List Way) → HaveSame side (rules_of dump from.chain) from.mode next next' → Tallies next p t ws → Tallies next' p t ws
+  tally_moved next next' p t ws same h = record {
+    out = h.out;
+    past = h.past;
+    found = h.found;
+    completes = passed_over with_literals side dump from R E next next' h.out (cut_all with_literals around h.past) h.past h.found same h.completes;
+    counts = h.counts;
   }
 
   pub all_tallied : (next p t : ℕ) (ws : List Way) → drop next (rules_of dump from.chain) ≡ [] → Tallies next p t ws → (t ≡ capped (total_of R)) × (ws ≡ map way_of E)

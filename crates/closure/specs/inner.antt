@@ -6,3 +6,6 @@ pub mod Counts
 pub mod Counted
 pub mod Totals
 pub mod Ways
+pub mod Skips
+pub mod Ends
+pub mod Steps

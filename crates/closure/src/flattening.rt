@@ -6,11 +6,11 @@ ghost use Rattle.closure.specs.inner.Parts.{rule_of_parts};
 
 use crate::cutting::State;
 use crate::modes::Parts;
-use crate::parts::behind;
+use crate::parts::{behind, push_copies};
 use crate::streaming::states_of;
 use chain_graph::Ranked;
 use fw_rule::{Dump, Side};
-use match_expr::{Expr, FlatRule, Items, List, Primitive};
+use match_expr::{Boxed, Expr, FlatRule, Items, List, Primitive};
 use std::alloc::{AllocError, Global};
 
 impl<P: Primitive> State<P> for Parts<P> {
@@ -20,6 +20,15 @@ impl<P: Primitive> State<P> for Parts<P> {
 
     fn cut(&self, alloc: Global, e: &Expr<P>) -> Result<Parts<P>, AllocError> {
         let parts = behind(alloc, self.parts.as_slice(), e)?;
+        Ok(Parts {
+            parts: List::of(parts),
+        })
+    }
+
+    fn cut_not(&self, alloc: Global, e: &Expr<P>) -> Result<Parts<P>, AllocError> {
+        let mut parts = Vec::new(alloc);
+        push_copies(alloc, &mut parts, self.parts.as_slice())?;
+        parts.push(Expr::Not(Boxed::new(alloc, e.copy(alloc)?)?))?;
         Ok(Parts {
             parts: List::of(parts),
         })

@@ -23,7 +23,7 @@ pub fn kind_of(side: Side, action: &Action) -> ActionKind
 }
 
 /// Puts copies of the expressions behind the others.
-fn push_copies<P: Primitive>(
+pub fn push_copies<P: Primitive>(
     alloc: Global,
     parts: &mut Vec<Expr<P>>,
     more: &[Expr<P>],

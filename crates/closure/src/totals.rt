@@ -8,6 +8,7 @@ ghost use Rattle.closure.specs.inner.Totals.{lit_count, total_of, with_literals}
 ghost use Rattle.closure.specs.inner.Ways.{way_of};
 ghost use Rattle.closure.specs.Rewriting.{chain_tree};
 ghost use Rattle.closure.specs.inner.Items.{level, items_from};
+ghost use Rattle.closure.specs.inner.Skips.{AreSkips};
 ghost use Rattle.closure.specs.Flat.{escapes, flat_list, literals_in};
 ghost use Rattle.closure.specs.Stream.{stream};
 
@@ -15,6 +16,7 @@ use crate::modes::{Mode, Row, RulesFrom};
 use crate::parts::kind_of;
 use crate::ranks::rank_of;
 use crate::rows::row_of;
+use crate::skips::{Skips, first_item, skips_of};
 use crate::tally::Tally;
 use chain_graph::Ranked;
 use fw_rule::{Dump, Lit, Rule, Side, doubtful};
@@ -42,17 +44,19 @@ fn known_literals<P: Primitive>(rule: &Rule<P>) -> u64
     count
 }
 
-/// What is counted of these rules, where `around` literals stand around them.
+/// What is counted of these rules, where `around` literals stand around them. A rule that gives no item isn't looked at.
 fn count_from<P: Primitive>(
     alloc: Global,
     dump: &Dump<P>,
     side: Side,
+    table: &[Skips],
     from: RulesFrom,
     around: u64,
 ) -> Result<Tally, AllocError>
     requires settled { InSettled dump.now from.chain }
     requires within { Within dump.now from.depth from.chain }
     requires room { level from.mode + from.depth < 2 ^ 32 }
+    requires table { AreSkips side dump.now table.now }
     ensures total { IfOk result (λ tally. tally.total ≡ capped (total_of (stream with_literals around (items_from side dump.now from)))) }
     ensures ways { IfOk result (λ tally. tally.ways.items ≡ map way_of (escapes [] (items_from side dump.now from))) }
 {
@@ -62,7 +66,8 @@ fn count_from<P: Primitive>(
         total: 0,
         ways: Vec::new(alloc),
     };
-    for next in from.first..rules.len() {
+    let mut next = first_item(dump, side, table, from.chain, from.first, from.mode);
+    while next < rules.len() {
         let rule = &rules[next];
         let literals = known_literals(rule);
         let whole = around.saturating_add(tally.past).saturating_add(literals);
@@ -76,7 +81,7 @@ fn count_from<P: Primitive>(
                     mode: Mode::Soft(0),
                     ..from
                 };
-                let inner = count_from(alloc, dump, side, behind, whole)?;
+                let inner = count_from(alloc, dump, side, table, behind, whole)?;
                 tally.run(literals, &inner)?;
                 tally.leave(literals, 0)?;
             }
@@ -87,16 +92,17 @@ fn count_from<P: Primitive>(
                     depth: from.depth - 1,
                     mode,
                 };
-                let inner = count_from(alloc, dump, side, called, whole)?;
+                let inner = count_from(alloc, dump, side, table, called, whole)?;
                 tally.run(literals, &inner)?;
             }
         }
+        next = first_item(dump, side, table, from.chain, next + 1, from.mode);
     }
     Ok(tally)
 }
 
-/// The number of literals of a chain's flat list, repeats counted. It stops at 2^64 - 1. Nothing is built: the chains' rules are passed as often as their items stand in the tree, and of an
-/// escape its number of literals alone is kept.
+/// The number of literals of a chain's flat list, repeats counted. It stops at 2^64 - 1. Nothing is built but, for each chain's rules, where the next one stands that gives an item: the rules
+/// that do are passed as often as their items stand in the tree, and of an escape its number of literals alone is kept.
 pub fn count_literals<P: Primitive>(
     alloc: Global,
     dump: &Dump<P>,
@@ -107,12 +113,13 @@ pub fn count_literals<P: Primitive>(
     requires { IsRankedWithPolicy dump.now chain ranked.now }
     ensures { IfOk result (λ n. n ≡ min (literals_in (flat_list (chain_tree side dump.now chain))) (2 ^ 64 - 1)) }
 {
+    let table = skips_of(alloc, dump, side)?;
     let whole = RulesFrom {
         chain,
         first: 0,
         depth: rank_of(ranked, chain),
         mode: Mode::Hard,
     };
-    let tally = count_from(alloc, dump, side, whole, 0)?;
+    let tally = count_from(alloc, dump, side, table.as_slice(), whole, 0)?;
     Ok(tally.total)
 }

@@ -15,9 +15,9 @@ use Rattle.simple_filter.specs.inner.Collected.{within_limit, cut_by, whole_cube
 
 module _ (W : ℕ) where
   -- the list that a cut returns is one of those on its way
-  record Long (cuts : Cuts W) : Type 0 where
-    keep : (l : List (Cube W)) → length (cuts.keep l).list ≤ (cuts.keep l).longest
-    omit : (l : List (Cube W)) → length (cuts.omit l).list ≤ (cuts.omit l).longest
+  pub record Long (cuts : Cuts W) : Type 0 where
+    pub keep : (l : List (Cube W)) → length (cuts.keep l).list ≤ (cuts.keep l).longest
+    pub omit : (l : List (Cube W)) → length (cuts.omit l).list ≤ (cuts.omit l).longest
 
   abbrev E : Type 0
   E = Expr (Prim_ W)
@@ -41,7 +41,7 @@ module _ (W : ℕ) where
   layer (Expr-F.Not e) = record { keep = (e.1).omit; omit = (e.1).keep }
   layer (Expr-F.Prim x) = record { keep = λ l. omega arith; omit = λ l. omega arith }
 
-  cuts_long : (e : E) → Kept e
+  pub cuts_long : (e : Expr (Prim_ W)) → Long (cuts_by {W = W} e)
   cuts_long = ind-Expr (Prim_ W) Kept (λ x y is. subst Long (sym (fold-roll-Expr (Prim_ W) (Cuts W) (cuts_step {W = W}) x)) (subst Layer is (layer y)))
 
   none_in_turn : (es : List E) → cut_all (cut_by {W = W}) None es ≡ None

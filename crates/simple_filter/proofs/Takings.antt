@@ -1,7 +1,7 @@
 -- What is held after the states of a flat list came, by the list itself.
-use Rattle.std.proofs.Common.{◌≡◌, ℕ, ◌<◌, ◌≤◌, nat_lt, max, Bool, true, false, ◌||◌, ◌+◌, if◌then◌else◌, List, [], ◌∷◌, ◌++◌, length, length-append, append_assoc, append-nil, Option, None, Some, refl, sym, ◌∙◌, ap, map, arith}
+use Rattle.std.proofs.Common.{◌≡◌, ℕ, ◌<◌, ◌≤◌, nat_lt, max, Bool, true, false, ◌||◌, ◌+◌, if◌then◌else◌, List, [], ◌∷◌, ◌++◌, length, length-append, append_assoc, append-nil, Option, None, Some, refl, sym, ◌∙◌, ap, subst, map, arith}
 use Rattle.std.proofs.lemmas.Bool.Decides.{nat_tests}
-use Rattle.basics.proofs.Truths.{or_right}
+use Rattle.basics.proofs.Truths.{clash, or_left, or_right}
 use Rattle.limits.specs.declared.TheConstants.{MOST_CUBES, MOST_RULES}
 use Rattle.match_expr.specs.declared.expr.FlatRule.{FlatRule}
 use Rattle.primitives.specs.declared.prim.Prim_.{Prim_}
@@ -10,7 +10,7 @@ use Rattle.box_norm.specs.declared.cube.Cube.{Cube}
 use Rattle.box_norm.specs.declared.cube.SimpleRule.{SimpleRule}
 use Rattle.box_norm.specs.Cuts.{Work, cuts_by}
 use Rattle.box_norm.specs.Normal.{boxes_of, normal_of, whole_of, with_verdict}
-use Rattle.box_norm.specs.Regular.{AreRegular, EachCube}
+use Rattle.box_norm.specs.Regular.{AreRegular, EachCube, IsRegular}
 use Rattle.box_norm.specs.Sets.{HasSets}
 use Rattle.box_norm.proofs.Normals.{length_verdicts}
 use Rattle.box_norm.proofs.RegularLaws.{more_regular}
@@ -37,30 +37,40 @@ abbrev States : ℕ → Type 0
 States W = List (Option (List (Cube W)) × Bool)
 
 module _ {W : ℕ} where
-  over_append : (xs : States W) (x : Option (List (Cube W)) × Bool) → some_over (xs ++ x ∷ []) ≡ (some_over xs || is_over x.0)
-  over_append [] x = or_none (is_over x.0)
-  over_append (y ∷ xs) x = rw (over_append xs x) (sym (or_assoc (is_over y.0) (some_over xs) (is_over x.0)))
+  over_append : (xs ys : States W) → some_over (xs ++ ys) ≡ (some_over xs || some_over ys)
+  over_append [] ys = refl
+  over_append (y ∷ xs) ys = rw (over_append xs ys) (sym (or_assoc (is_over y.0) (some_over xs) (some_over ys)))
+
+  over_one : (xs : States W) (x : Option (List (Cube W)) × Bool) → some_over (xs ++ x ∷ []) ≡ (some_over xs || is_over x.0)
+  over_one xs x = over_append xs (x ∷ []) ∙ ap (λ b. some_over xs || b) (or_none (is_over x.0))
 
   rules_append : (xs : States W) (x : Option (List (Cube W)) × Bool) → all_rules (xs ++ x ∷ []) ≡ all_rules xs ++ rules_of x.0 x.1
   rules_append [] x = append-nil (rules_of x.0 x.1)
   rules_append (y ∷ xs) x = rw (rules_append xs x) (sym (append_assoc (rules_of y.0 y.1) (all_rules xs) (rules_of x.0 x.1)))
 
   pub taken_none : HasTaken {W = W} [] false false []
-  taken_none = record { boxes = refl; rules = λ h. refl; few = λ h. omega arith; many = λ h. absurd (grind (arith, h)); regular = tt; sets = tt }
+  taken_none = record { boxes = refl; rules = λ b h. refl; few = λ b h. omega arith; many = λ b h. absurd (grind (arith, h)); regular = tt; sets = tt }
+
+  -- where some were too many, nothing that comes makes a difference
+  module _ (rules : List (SimpleRule W)) (full boxes : Bool) where
+    over_taken : (xs : States W) → boxes ≡ true → boxes ≡ some_over xs → EachCube IsRegular rules → EachCube HasSets rules → HasTaken rules full boxes xs
+    over_taken xs b is regular sets = record {
+      boxes = is;
+      rules = λ no. absurd (clash boxes b no);
+      few = λ no. absurd (clash boxes b no);
+      many = λ no. absurd (clash boxes b no);
+      regular = regular;
+      sets = sets;
+    }
+
+    pub taken_settled : boxes ≡ true → (xs ys : States W) → HasTaken rules full boxes xs → HasTaken rules full boxes (xs ++ ys)
+    taken_settled b xs ys h =
+        over_taken (xs ++ ys) b (b ∙ sym (over_append xs ys ∙ or_left (some_over xs) (some_over ys) (sym h.boxes ∙ b))) h.regular h.sets
 
   -- one more
   module _ (rules : List (SimpleRule W)) (full boxes : Bool) (xs : States W) (h : HasTaken rules full boxes xs) (accept : Bool) where
     pub taken_over : HasTaken rules full true (xs ++ (None, accept) ∷ [])
-    taken_over =
-        let same : all_rules (xs ++ (None, accept) ∷ []) ≡ all_rules xs = rules_append xs (None, accept) ∙ append-nil (all_rules xs) in
-        record {
-          boxes = sym (over_append xs (None, accept) ∙ or_right (some_over xs) true refl);
-          rules = λ f. h.rules f ∙ sym same;
-          few = λ f. rw same (h.few f);
-          many = λ f. rw same (h.many f);
-          regular = h.regular;
-          sets = h.sets;
-        }
+    taken_over = over_taken rules full true (xs ++ (None, accept) ∷ []) refl (sym (over_one xs (None, accept) ∙ or_right (some_over xs) true refl)) h.regular h.sets
 
     module _ (cubes : List (Cube W)) where
       more : all_rules (xs ++ (Some cubes, accept) ∷ []) ≡ all_rules xs ++ with_verdict accept cubes
@@ -70,19 +80,19 @@ module _ {W : ℕ} where
       long = ap length more ∙ length-append (all_rules xs) (with_verdict accept cubes) ∙ ap (λ z. length (all_rules xs) + z) (length_verdicts accept cubes)
 
       same_boxes : boxes ≡ some_over (xs ++ (Some cubes, accept) ∷ [])
-      same_boxes = h.boxes ∙ sym (over_append xs (Some cubes, accept) ∙ or_none (some_over xs))
+      same_boxes = h.boxes ∙ sym (over_one xs (Some cubes, accept) ∙ or_none (some_over xs))
 
-      too_many : (b : Bool) → full ≡ b → (b ≡ false → MOST_RULES < length rules + length cubes) → MOST_RULES < length (all_rules (xs ++ (Some cubes, accept) ∷ []))
-      too_many true f m = omega (arith, h.many f, long)
-      too_many false f m = omega (arith, m refl, ap length (h.rules f), long)
+      too_many : boxes ≡ false → (b : Bool) → full ≡ b → (b ≡ false → MOST_RULES < length rules + length cubes) → MOST_RULES < length (all_rules (xs ++ (Some cubes, accept) ∷ []))
+      too_many none true f m = omega (arith, h.many none f, long)
+      too_many none false f m = omega (arith, m refl, ap length (h.rules none f), long)
 
       -- too many rules now, or before
       pub taken_full : (full ≡ false → MOST_RULES < length rules + length cubes) → HasTaken rules true boxes (xs ++ (Some cubes, accept) ∷ [])
       taken_full m = record {
         boxes = same_boxes;
-        rules = λ f. absurd (grind (arith, f));
-        few = λ f. absurd (grind (arith, f));
-        many = λ f. too_many full refl (λ e. m e);
+        rules = λ none f. absurd (grind (arith, f));
+        few = λ none f. absurd (grind (arith, f));
+        many = λ none f. too_many none full refl (λ e. m e);
         regular = h.regular;
         sets = h.sets;
       }
@@ -91,12 +101,18 @@ module _ {W : ℕ} where
           HasTaken (rules ++ with_verdict accept cubes) false boxes (xs ++ (Some cubes, accept) ∷ [])
       taken_more f small r s = record {
         boxes = same_boxes;
-        rules = λ g. ap (λ z. z ++ with_verdict accept cubes) (h.rules f) ∙ sym more;
-        few = λ g. omega (arith, small, ap length (h.rules f), long);
-        many = λ g. absurd (grind (arith, g));
+        rules = λ none g. ap (λ z. z ++ with_verdict accept cubes) (h.rules none f) ∙ sym more;
+        few = λ none g. omega (arith, small, ap length (h.rules none f), long);
+        many = λ none g. absurd (grind (arith, g));
         regular = more_regular rules accept cubes h.regular r;
         sets = s;
       }
+
+    -- too many rules before, and cubes that aren't looked at
+    pub taken_unseen : full ≡ true → (state : Option (List (Cube W))) → is_over state ≡ false → HasTaken rules full boxes (xs ++ (state, accept) ∷ [])
+    taken_unseen f None few = absurd (grind (arith, few))
+    taken_unseen f (Some cubes) few =
+        subst (λ b. HasTaken rules b boxes (xs ++ (Some cubes, accept) ∷ [])) (sym f) (taken_full cubes (λ no. absurd (clash full f no)))
 
 -- by the flat list
 module _ (W : ℕ) where
@@ -138,10 +154,10 @@ module _ (W : ℕ) where
     boxes_keep b = grind (arith, nat_tests, b, h.boxes ∙ over_boxes rules)
 
     pub rules_pass : boxes ≡ false → full ≡ true → MOST_RULES < length (normal_of rules)
-    rules_pass b f = rw (← rules_normal rules (boxes_keep b)) (h.many f)
+    rules_pass b f = rw (← rules_normal rules (boxes_keep b)) (h.many b f)
 
     pub rules_keep : boxes ≡ false → full ≡ false → length (normal_of rules) ≤ MOST_RULES
-    rules_keep b f = rw (← rules_normal rules (boxes_keep b)) (h.few f)
+    rules_keep b f = rw (← rules_normal rules (boxes_keep b)) (h.few b f)
 
     pub rules_are : boxes ≡ false → full ≡ false → taken ≡ normal_of rules
-    rules_are b f = h.rules f ∙ rules_normal rules (boxes_keep b)
+    rules_are b f = h.rules b f ∙ rules_normal rules (boxes_keep b)

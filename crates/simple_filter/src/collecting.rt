@@ -5,11 +5,14 @@ ghost use Rattle.box_norm.specs.Sets.{HasSets};
 
 use crate::cubes::Cubes;
 use box_norm::{Cube, SimpleRule};
-use closure::Sink;
+use closure::{Sink, State};
 use limits::MOST_RULES;
+use match_expr::Expr;
+use primitives::Prim_;
 use std::alloc::{AllocError, Global};
 
-/// The simple rules of the flat rules so far. Past the limit none is added.
+/// The simple rules of the flat rules so far. Past the limit none is added, and once a list of cubes was too long, nothing
+/// is kept up any more.
 #[derive(Drop)]
 pub(crate) struct Collected<const W: u32> {
     pub rules: Vec<SimpleRule<W>>,
@@ -46,13 +49,26 @@ fn push_rules<const W: u32>(
     Ok(())
 }
 
-impl<const W: u32> Sink<Cubes<W>> for Collected<W> {
+impl<const W: u32> Sink<Prim_<W>, Cubes<W>> for Collected<W> {
     ghost use Rattle.simple_filter.specs.inner.Collected.{HasTaken};
 
     ghost given = { λ k xs. HasTaken k.rules.items k.is_full k.has_boxes xs };
 
-    fn put(&mut self, _alloc: Global, state: Cubes<W>, accept: bool) -> Result<(), AllocError> {
-        let Cubes { list, is_over } = state;
+    /// Once the rules were too many, no cut is made that surely comes to no list that is too long.
+    fn put_cut(
+        &mut self,
+        alloc: Global,
+        state: &Cubes<W>,
+        e: &Expr<Prim_<W>>,
+        accept: bool,
+    ) -> Result<(), AllocError> {
+        if self.has_boxes {
+            return Ok(());
+        }
+        if self.is_full && state.stay_few(e) {
+            return Ok(());
+        }
+        let Cubes { list, is_over } = state.cut(alloc, e)?;
         if is_over {
             self.has_boxes = true;
             return Ok(());
@@ -64,5 +80,10 @@ impl<const W: u32> Sink<Cubes<W>> for Collected<W> {
         }
         push_rules(&mut self.rules, cubes, accept)?;
         Ok(())
+    }
+
+    /// Once a list was too long, so the answer stands, whatever else comes.
+    fn is_settled(&self) -> bool {
+        self.has_boxes
     }
 }

@@ -8,7 +8,7 @@ use Rattle.closure.specs.Rewriting.{kind, row_of}
 use Rattle.closure.specs.inner.Items.{items_from}
 use Rattle.closure.proofs.RowLemmas.{row_is}
 use Rattle.closure.proofs.FlatLemmas.{hardness_small, within_some, run_kind, calls, leads, rule_here, rules_over, tree_called}
-use Rattle.closure.proofs.Tallies.{begun, all_tallied, tally_skipped, tally_decided, tally_left, tally_left_later, tally_ran}
+use Rattle.closure.proofs.Tallies.{begun, all_tallied, tally_moved, tally_skipped, tally_decided, tally_left, tally_left_later, tally_ran}
 use Rattle.closure.proofs.totals.+count_from.Goals as goal
 use Rattle.closure.proofs.totals.+count_from.Goals.{in-Skip, in-Decide, in-Leave+in_ok-leave-in-Leave, in-LeaveLater+in_ok-inner-in-LeaveLater+in_ok-run-in-LeaveLater+in_ok-leave-in-LeaveLater, in-Run+in_ok-inner-in-Run+in_ok-run-in-Run}
 
@@ -16,7 +16,18 @@ pub bounds-as_slice-from : goal.bounds-as_slice-from
 bounds-as_slice-from g t c = let h = chain_inside c.args.dump.now c.args.from.chain c.requires.settled in omega (arith, h, ap length c.as_slice.ensures)
 
 pub loop-next-init : goal.loop-next-init
-loop-next-init g t c = begun c.args.side c.args.dump.now c.args.from c.args.around c.new.result.items c.new.ensures.items
+loop-next-init g t c =
+    tally_moved c.args.side c.args.dump.now c.args.from c.args.around c.args.from.first c.first_item-next.result 0 0 c.new.result.items c.first_item-next.ensures.same
+    (begun c.args.side c.args.dump.now c.args.from c.args.around c.new.result.items c.new.ensures.items)
+
+pub first_item-next-requires-in-loop-next-clause-inside : goal.first_item-next-requires-in-loop-next-clause-inside
+first_item-next-requires-in-loop-next-clause-inside g t c = chain_inside c.args.dump.now c.args.from.chain c.requires.settled
+
+pub loop-next-smaller : goal.loop-next-smaller
+loop-next-smaller g t c = omega (arith, c.first_item-next-in-loop-next.ensures.ahead, c.loop-next-test.true)
+
+pub first_item-next-requires-clause-inside : goal.first_item-next-requires-clause-inside
+first_item-next-requires-clause-inside g t c = chain_inside c.args.dump.now c.args.from.chain c.requires.settled
 
 pub row_of-requires : goal.row_of-requires
 row_of-requires g t c = let h = within_some c.args.dump.now c.args.from.depth c.args.from.chain c.requires.within in omega (arith, h, c.requires.room)
@@ -32,7 +43,7 @@ count_from-requires-in-Run g t c κs within =
     let call = leads c.args.dump.now c.args.from.chain c.loop-next.next c.as_slice.result.now c.index-as_slice-from.result c.as_slice-rules.result.now c.as_slice.ensures c.requires.settled c.index-as_slice-from.is c.as_slice-rules.ensures rule c.loop-next-test.true c.index-rules-next.is c.in-Run.callee (calls c.args.side rule.action c.in-Run.callee k.0) in
     let less = shallower c.args.dump.now c.args.from.depth c.args.from.chain c.in-Run.callee c.requires.within call in
     let small = hardness_small c.in-Run.mode in
-    (omega (arith, less.0, small, c.decreases), (search rules, (search rules, (further c.args.dump.now c.args.from.chain c.in-Run.callee c.requires.settled call, (less.1, omega (arith, less.0, k.1, c.requires.room))))))
+    (omega (arith, less.0, small, c.decreases), (search rules, (search rules, (further c.args.dump.now c.args.from.chain c.in-Run.callee c.requires.settled call, (less.1, (omega (arith, less.0, k.1, c.requires.room), c.requires.table))))))
 
 pub loop-next-preserved : goal.loop-next-preserved
 loop-next-preserved g t c =
@@ -42,7 +53,9 @@ loop-next-preserved g t c =
     let here = rule_here c.args.dump.now c.args.from.chain c.loop-next.next c.as_slice.result.now c.index-as_slice-from.result c.as_slice-rules.result.now c.as_slice.ensures c.requires.settled c.index-as_slice-from.is c.as_slice-rules.ensures rule c.loop-next-test.true c.index-rules-next.is in
     let row : c.row_of.result ≡ row_of c.args.side (doubt_in rule.lits) (kind c.args.side rule.action) c.args.from.mode = row_is c.args.side c.args.from.mode c.row_of.result c.doubtful.result (doubt_in rule.lits) c.kind_of.result (kind c.args.side rule.action) c.row_of.ensures c.doubtful.ensures c.kind_of.ensures in
     let whole : c.saturating_add-whole.result ≡ capped (capped (c.args.around + now.past) + c.known_literals-literals.result) = c.saturating_add-whole.ensures ∙ rw c.saturating_add.ensures refl in
-    elim c.match-row_of.branch [
+    tally_moved c.args.side c.args.dump.now c.args.from c.args.around (c.loop-next.next + 1) c.first_item-next-in-loop-next.result c.match-row_of.tally.past c.match-row_of.tally.total c.match-row_of.tally.ways.items
+    c.first_item-next-in-loop-next.ensures.same
+    (elim c.match-row_of.branch [
       | in-Skip w ↦ rw w.tally-is
           (tally_skipped c.args.side c.args.dump.now c.args.from c.args.around small c.loop-next.next rule here c.known_literals-literals.result c.known_literals-literals.ensures now.past now.total now.ways.items c.loop-next.invariant (sym w.in-Skip.is ∙ row))
       | in-Decide w ↦ rw w.tally-is
@@ -70,7 +83,7 @@ loop-next-preserved g t c =
           w.in_ok-inner-in-Run.inner.total w.in_ok-inner-in-Run.inner.ways.items w.in_ok-inner-in-Run.ensures.total w.in_ok-inner-in-Run.ensures.ways
           w.run-in-Run.new.self.past w.run-in-Run.new.self.total w.run-in-Run.new.self.ways.items w.in_ok-run-in-Run.ensures.past w.in_ok-run-in-Run.ensures.total w.in_ok-run-in-Run.ensures.ways
           w.in-Run.callee w.in-Run.mode r called))
-    ]
+    ])
 
 pub returns-clause-total : goal.returns-clause-total
 returns-clause-total g t c =
