@@ -79,14 +79,6 @@ module _ {W : ℕ} (a b : Cube W) where
   pub apart_out_name : names_common a.out_name b.out_name ≡ None → and_of a b ≡ None
   apart_out_name e = ap (λ o. and_names a b (names_common a.in_name b.in_name) o) e ∙ no_out (names_common a.in_name b.in_name)
 
--- names whose bases share none
-pub no_common : (a b : NameSet) → have_common a.base b.base ≡ false → names_common a b ≡ None
-no_common a b e = ap (λ t. without_each (if t then cut_under (narrower a.base b.base) a.excluded else None) b.excluded) e
-
--- ranges that share no number
-pub no_numbers : (w : ℕ) (a b : List Range) → IsSet w a → ((n : ℕ) → (has a n && has b n) ≡ false) → set_and w a b ≡ []
-no_numbers w a b s h = sym (spelled_and w [] a b a b (s.0, tt) (λ n. sym (h n)) refl refl)
-
 -- `xs` and `ys` are what is left of `a` and `b` in the test
 pub record Passed (w : ℕ) (a b xs ys : List Range) : Type 0 where
   pub numbers : (n : ℕ) → (has a n && has b n) ≡ (has xs n && has ys n)

@@ -2,7 +2,6 @@
 use Rattle.std.proofs.Common.{◌≡◌, ℕ, ◌+◌, ◌-◌, ◌*◌, ◌^◌, ◌<◌, ◌≤◌, List, [], ◌∷◌, Bool, true, false, ◌&&◌, Option, None, Some, ◌∙◌, ap, arith, inl, inr, subst, sym, length, get_or, drop}
 use Rattle.std.specs.Int.{bit_at, trailing_zeros, w64}
 use Rattle.std.proofs.lemmas.List.{drop_all}
-use Rattle.basics.proofs.Truths.{or_left, or_right}
 use Rattle.std.proofs.lemmas.Bool.Decides.{nat_tests}
 use Rattle.std.proofs.lemmas.Nat.Bits.{bit_at-trailing_zeros, bit_at-zero, bit_at_cat_high}
 use Rattle.interval_set.specs.declared.set.Range.{Range}
@@ -12,12 +11,12 @@ use Rattle.name_set.specs.Least.{IsLeast as IsLeastName}
 use Rattle.primitives.specs.declared.prim.Packet.{Packet}
 use Rattle.primitives.specs.Holds.{has_bit}
 use Rattle.box_norm.specs.declared.cube.Cube.{Cube}
-use Rattle.box_norm.specs.Cubes.{any_holds, holds_cube}
+use Rattle.box_norm.specs.Cubes.{holds_cube}
 use Rattle.box_norm.specs.Overlaps.{and_of, holds_some}
 use Rattle.box_norm.proofs.OverlapLaws.{and_holds}
 use Rattle.region_cut.specs.Least.{AreApart, IsHit, IsLeastBit}
 use Rattle.region_cut.specs.Search.{AllApart, IsFirstHit}
-use Rattle.region_cut.specs.inner.Hits.{AreParts, HitsFirst, HitsOne, IsLeastOf}
+use Rattle.region_cut.specs.inner.Hits.{HitsFirst, HitsOne, IsLeastOf}
 use Rattle.region_cut.proofs.Items.{drop_item}
 
 -- numbers of a set are below its bound
@@ -91,14 +90,6 @@ apart_none a b e p v h k = held_by (holds_cube a p) (holds_cube b p) (holds_some
 pub hits_one : {W : ℕ} (a b common : Cube W) → and_of a b ≡ Some common → (o : Option Packet) → IsLeastOf common o → HitsOne a b o
 hits_one a b common e None l = λ p v h k. held_by (holds_cube a p) (holds_cube b p) (holds_some (and_of a b) p) (and_holds a b p v) (ap (λ o. holds_some o p) e ∙ l p v) h k
 hits_one a b common e (Some p) l = record { common = common; common_is = e; least = l.0; valid = l.1 }
-
--- parts of a region that is apart from the cube
-pub parts_apart : {W : ℕ} (region cube : Cube W) (parts : List (Cube W)) → AreParts region parts → AreApart region cube → AllApart parts cube
-parts_apart region cube [] within apart = tt
-parts_apart region cube (c ∷ cs) within apart = (
-  λ p v h k. apart p v (within p v (or_left (holds_cube c p) (any_holds cs p) h)) k,
-  parts_apart region cube cs (λ p v h. within p v (or_right (holds_cube c p) (any_holds cs p) h)) apart,
-)
 
 -- what several regions answer, where the first of them has no packet
 later : {W : ℕ} (region : Cube W) (regions : List (Cube W)) (cube : Cube W) → AreApart region cube → (o : Option Packet) → HitsFirst regions cube o → HitsFirst (region ∷ regions) cube o

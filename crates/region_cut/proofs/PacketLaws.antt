@@ -44,7 +44,7 @@ stays_by : {W : ℕ} (b : Bool) (rule : SimpleRule W) (regions : List (Cube W)) 
 stays_by true rule regions p v h k = h
 stays_by false rule regions p v h k = let e = each_holds rule.cube regions p v in grind (arith, e, h, k)
 
-pub was_by : {W : ℕ} (b : Bool) (rule : SimpleRule W) (regions : List (Cube W)) (p : Packet) → IsValid W p → (b ≡ true → AllApart regions rule.cube) →
+was_by : {W : ℕ} (b : Bool) (rule : SimpleRule W) (regions : List (Cube W)) (p : Packet) → IsValid W p → (b ≡ true → AllApart regions rule.cube) →
     any_holds (if b then regions else each_piece (λ c. minus_of c rule.cube) regions) p ≡ true → (any_holds regions p ≡ true) × (holds_cube rule.cube p ≡ false)
 was_by true rule regions p v f h = (h, apart_misses rule.cube regions p v (f refl) h)
 was_by false rule regions p v f h = let e = each_holds rule.cube regions p v in (grind (arith, e, h), grind (arith, e, h))

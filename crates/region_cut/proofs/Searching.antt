@@ -3,7 +3,7 @@ use Rattle.std.proofs.Common.{◌≡◌, ◌<◌, ◌≤◌, ◌⊎◌, ℕ, ◌
 use Rattle.std.specs.Prelude.{if◌then◌else◌}
 use Rattle.std.specs.List.{AllByRecursion}
 use Rattle.std.proofs.lemmas.List.{drop_all}
-use Rattle.basics.proofs.Lists.{each_append}
+use Rattle.basics.proofs.Lists.{each_append, each_weaker}
 use Rattle.limits.specs.declared.TheConstants.{MOST_REGIONS}
 use Rattle.interval_set.specs.Numbers.{IsWidth}
 use Rattle.primitives.specs.declared.prim.Packet.{Packet}
@@ -17,9 +17,13 @@ use Rattle.box_norm.specs.Regular.{HasStates}
 use Rattle.box_norm.proofs.StateLaws.{minus_states}
 use Rattle.region_cut.specs.declared.fault.RegionFault.{RegionFault}
 use Rattle.region_cut.specs.Search.{AllApart, ComesToMore, Finds, FindsNothing, Here, IsFirstHit, IsTooLarge, Later, Now, Past, RefusesSearch, Searches, Then, left_by, with_policy}
-use Rattle.region_cut.specs.inner.Hits.{AreParts, HitsFirst, LeavesMany}
+use Rattle.region_cut.specs.Least.{AreApart}
+use Rattle.region_cut.specs.inner.Hits.{HitsFirst, LeavesMany}
+use Rattle.region_cut.specs.inner.Misses.{Misses}
 use Rattle.region_cut.proofs.Items.{drop_item}
-use Rattle.region_cut.proofs.PacketLaws.{no_hit, was_by}
+use Rattle.region_cut.proofs.LeastLaws.{apart_none}
+use Rattle.region_cut.proofs.PacketLaws.{no_hit}
+use Rattle.region_cut.proofs.UnderLaws.{IsUnder, each_missed, missed_none, missed_stay, pieces_under, under_self}
 use Rattle.region_cut.proofs.WholeLaws.{without_whole}
 
 -- where the regions here aren't more than so many, the search comes to more behind the first rule
@@ -44,7 +48,7 @@ pub record Searched {W : ℕ} (region : Cube W) (rules left : List (SimpleRule W
   pub no_more : IsTooLarge region rules → ComesToMore MOST_REGIONS left regions
   pub few : length regions ≤ MOST_REGIONS
   pub states : AllByRecursion HasStates regions
-  pub parts : AreParts region regions
+  pub under : AllByRecursion (IsUnder region) regions
 
 each_states : {W : ℕ} (cube : Cube W) (regions : List (Cube W)) → AllByRecursion HasStates regions → AllByRecursion HasStates (each_piece (λ c. minus_of c cube) regions)
 each_states cube [] h = tt
@@ -54,6 +58,16 @@ left_states : {W : ℕ} (b : Bool) (cube : Cube W) (regions : List (Cube W)) →
     AllByRecursion HasStates (if b then regions else each_piece (λ c. minus_of c cube) regions)
 left_states true cube regions h = h
 left_states false cube regions h = each_states cube regions h
+
+left_under : {W : ℕ} (b : Bool) (region cube : Cube W) (regions : List (Cube W)) → AllByRecursion (IsUnder region) regions →
+    AllByRecursion (IsUnder region) (if b then regions else each_piece (λ c. minus_of c cube) regions)
+left_under true region cube regions h = h
+left_under false region cube regions h = pieces_under region cube regions h
+
+left_missed : {W : ℕ} (b : Bool) (cube : Cube W) (regions : List (Cube W)) → AllByRecursion (λ c. Misses c cube) regions →
+    (if b then regions else each_piece (λ c. minus_of c cube) regions) ≡ regions
+left_missed true cube regions h = refl
+left_missed false cube regions h = missed_stay cube regions h
 
 -- one rule on
 module _ {W : ℕ} (region : Cube W) (rules : List (SimpleRule W)) (rule : SimpleRule W) (left : List (SimpleRule W)) (regions : List (Cube W))
@@ -65,12 +79,18 @@ module _ {W : ℕ} (region : Cube W) (rules : List (SimpleRule W)) (rule : Simpl
     no_more = λ c. (behind (rule ∷ left) regions s.few (s.no_more c)).1;
     few = few;
     states = left_states rule.accept rule.cube regions s.states;
-    parts = λ p v h. s.parts p v (was_by rule.accept rule regions p v f h).0;
+    under = left_under rule.accept region rule.cube regions s.under;
   }
 
   pub skipped : rule.accept ≡ true → AllApart regions rule.cube → Searched region rules left regions
   skipped a apart =
       let same : left_by rule regions ≡ regions = ap (λ b. if b then regions else each_piece (λ c. minus_of c rule.cube) regions) a in
+      subst (Searched region rules left) same (next (λ _. apart) (omega (arith, ap length same, s.few)))
+
+  pub passed : AllByRecursion (λ c. Misses c rule.cube) regions → Searched region rules left regions
+  passed missed =
+      let same = left_missed rule.accept rule.cube regions missed in
+      let apart : AllApart regions rule.cube = each_weaker (λ c. Misses c rule.cube) (λ c. AreApart c rule.cube) (λ c m. apart_none c rule.cube (missed_none c rule.cube m)) regions missed in
       subst (Searched region rules left) same (next (λ _. apart) (omega (arith, ap length same, s.few)))
 
   dropped_is : rule.accept ≡ false → left_by rule regions ≡ each_piece (λ c. minus_of c rule.cube) regions
@@ -125,7 +145,7 @@ module _ {W : ℕ} (region : Cube W) (rules : List (SimpleRule W)) (policy : Ver
     no_more = λ c. c;
     few = omega arith;
     states = (states, tt);
-    parts = λ p v h. grind (arith, h);
+    under = (under_self region, tt);
   }
 
   pub searched_all : (i : ℕ) (regions : List (Cube W)) → length rules ≤ i → SearchedTo i regions → Searched region (with_policy rules policy) (with_policy [] policy) regions
@@ -140,6 +160,12 @@ module _ {W : ℕ} (region : Cube W) (rules : List (SimpleRule W)) (policy : Ver
 
     pub too_large_at : (fault : RegionFault) → rule.accept ≡ false → LeavesMany regions rule.cube fault → RefusesSearch region (with_policy rules policy) fault
     too_large_at = too_large region (with_policy rules policy) rule (with_policy (drop (i + 1) rules) policy) regions at_rule
+
+    pub passed_at : AllByRecursion (λ c. Misses c rule.cube) regions → SearchedTo (i + 1) regions
+    passed_at = passed region (with_policy rules policy) rule (with_policy (drop (i + 1) rules) policy) regions at_rule
+
+    pub missed_at : Misses region rule.cube → SearchedTo (i + 1) regions
+    missed_at m = passed_at (each_missed region rule.cube regions s.under m)
 
     pub skipped_at : rule.accept ≡ true → AllApart regions rule.cube → SearchedTo (i + 1) regions
     skipped_at = skipped region (with_policy rules policy) rule (with_policy (drop (i + 1) rules) policy) regions at_rule

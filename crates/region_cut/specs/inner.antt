@@ -1,2 +1,3 @@
 -- What the contracts of private functions say. No public contract cites it.
 pub mod Hits
+pub mod Misses

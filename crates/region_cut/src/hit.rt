@@ -5,7 +5,7 @@ ghost use Rattle.interval_set.specs.Numbers.{IsLeast, has};
 ghost use Rattle.primitives.specs.Holds.{has_bit};
 ghost use Rattle.box_norm.specs.Regular.{HasStates};
 ghost use Rattle.region_cut.specs.Least.{IsLeastBit};
-ghost use Rattle.region_cut.specs.inner.Hits.{AreParts, HitsFirst, HitsOne, IsLeastOf};
+ghost use Rattle.region_cut.specs.inner.Hits.{HitsFirst, HitsOne, IsLeastOf};
 
 use crate::apart::are_apart;
 use box_norm::Cube;
@@ -115,22 +115,4 @@ pub(crate) fn hit_in<const W: u32>(
         }
     }
     Ok(None)
-}
-
-/// The same for regions that are parts of one: where that one is apart from the cube, none of them is asked.
-pub(crate) fn hit_in_parts<const W: u32>(
-    alloc: Global,
-    region: &Cube<W>,
-    parts: &[Cube<W>],
-    cube: &Cube<W>,
-) -> Result<Option<Packet>, AllocError>
-    requires states { HasStates region.now }
-    requires each { AllByRecursion HasStates parts.now }
-    requires parts { AreParts region.now parts.now }
-    ensures { IfOk result (HitsFirst parts.now cube.now) }
-{
-    match hit_of(alloc, region, cube)? {
-        Some(_) => hit_in(alloc, parts, cube),
-        None => Ok(None),
-    }
 }

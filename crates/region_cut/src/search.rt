@@ -8,8 +8,8 @@ ghost use Rattle.region_cut.specs.inner.Hits.{LeavesMany};
 ghost use Rattle.region_cut.specs.Search.{Finds, RefusesSearch, Tells, with_policy};
 
 use crate::RegionFault;
-use crate::apart::are_apart;
-use crate::hit::{hit_in, hit_in_parts};
+use crate::apart::{are_all_apart, are_apart, have_none_common};
+use crate::hit::hit_in;
 use box_norm::{Cube, SimpleRule, whole};
 use fw_rule::Verdict;
 use limits::MOST_REGIONS;
@@ -29,7 +29,7 @@ fn left_without<const W: u32>(
 {
     let mut left = Vec::new(alloc);
     for region in regions {
-        if are_apart(&region, cube) {
+        if have_none_common(&region, cube) {
             left.push(region)?;
         } else {
             let mut pieces = region.minus(alloc, cube)?.into_vec();
@@ -51,7 +51,8 @@ fn alone<const W: u32>(alloc: Global, region: &Cube<W>) -> Result<Vec<Cube<W>>, 
     Ok(list)
 }
 
-/// `first_hit`, by the lists of regions.
+/// `first_hit`, by the lists of regions. A rule that is apart from the searched region is so from each piece of it, and
+/// one that is apart from each piece leaves them as they are: both are passed over.
 fn found<const W: u32>(
     alloc: Global,
     region: &Cube<W>,
@@ -66,8 +67,14 @@ fn found<const W: u32>(
     let start = alone(alloc, region)?;
     let mut regions = start;
     for rule in rules {
+        if are_apart(region, &rule.cube) {
+            continue;
+        }
+        if are_all_apart(regions.as_slice(), &rule.cube) {
+            continue;
+        }
         if rule.accept {
-            if let Some(packet) = hit_in_parts(alloc, region, regions.as_slice(), &rule.cube)? {
+            if let Some(packet) = hit_in(alloc, regions.as_slice(), &rule.cube)? {
                 return Ok(Some(packet));
             }
         } else {

@@ -4,7 +4,7 @@ use Rattle.limits.specs.declared.TheConstants.{MOST_REGIONS}
 use Rattle.primitives.specs.declared.prim.Packet.{Packet}
 use Rattle.primitives.specs.Holds.{IsValid}
 use Rattle.box_norm.specs.declared.cube.Cube.{Cube}
-use Rattle.box_norm.specs.Cubes.{any_holds, each_piece, holds_cube}
+use Rattle.box_norm.specs.Cubes.{each_piece, holds_cube}
 use Rattle.box_norm.specs.Overlaps.{minus_of}
 use Rattle.region_cut.specs.declared.fault.RegionFault.{RegionFault}
 use Rattle.region_cut.specs.Least.{AreApart, IsHit, IsLeastPacket}
@@ -25,10 +25,6 @@ module _ {W : ℕ} where
   abbrev pub HitsFirst : List (Cube W) → Cube W → Option Packet → Type 0
   HitsFirst regions cube None = AllApart regions cube
   HitsFirst regions cube (Some p) = IsFirstHit regions cube p
-
-  -- no valid packet of the parts is outside the region
-  abbrev pub AreParts : Cube W → List (Cube W) → Type 0
-  AreParts region parts = (p : Packet) → IsValid W p → any_holds parts p ≡ true → holds_cube region p ≡ true
 
   -- the pieces without the cube are too many. Want of memory tells nothing
   abbrev pub LeavesMany : List (Cube W) → Cube W → RegionFault → Type 0
