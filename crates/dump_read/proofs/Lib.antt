@@ -9,3 +9,5 @@ pub mod ByteLemmas
 pub mod StateLemmas
 pub mod TakeLemmas
 pub mod ReadLemmas
+pub mod PieceLemmas
+pub mod AnswerLemmas

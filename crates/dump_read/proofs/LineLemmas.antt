@@ -3,12 +3,12 @@ use Rattle.std.proofs.Common.{ℕ, suc, ◌+◌, ◌≡◌, ◌≢◌, ◌⊎◌
 use Rattle.dump_grammar.specs.Lines.{Text, IsLine, AreLines, numbered_from}
 use Rattle.basics.proofs.Lists.{head_same, tail_same, no_cons}
 
-no_feed : (x : List ℕ) (r : List ℕ) → IsLine (x ++ 10 ∷ r) → ⊥
+pub no_feed : (x : List ℕ) (r : List ℕ) → IsLine (x ++ 10 ∷ r) → ⊥
 no_feed [] r h = h.0 refl
 no_feed (b ∷ x) r h = no_feed x r h.1
 
 -- lines that end at the first line feed of one text are one
-same_line : (x y r s : List ℕ) → IsLine x → IsLine y → x ++ 10 ∷ r ≡ y ++ 10 ∷ s → (x ≡ y) × (r ≡ s)
+pub same_line : (x y r s : List ℕ) → IsLine x → IsLine y → x ++ 10 ∷ r ≡ y ++ 10 ∷ s → (x ≡ y) × (r ≡ s)
 same_line [] [] r s p q e = (refl, tail_same 10 10 r s e)
 same_line [] (b ∷ y) r s p q e = absurd (q.0 (sym (head_same 10 b r (y ++ 10 ∷ s) e)))
 same_line (a ∷ x) [] r s p q e = absurd (p.0 (head_same a 10 (x ++ 10 ∷ r) s e))

@@ -1,8 +1,7 @@
 -- The lines so far, and the answer at their end.
-use Rattle.std.proofs.Common.{ℕ, suc, ◌+◌, ◌<◌, ◌≤◌, ◌≡◌, inl, inr, ◌⊎◌, Bool, true, false, cond, None, Some, Option, List, [], ◌∷◌, ◌++◌, length, map, refl, sym, ap, subst, ◌∙◌, arith, append_assoc, length-append}
+use Rattle.std.proofs.Common.{ℕ, suc, ◌+◌, ◌≤◌, ◌≡◌, inl, inr, Bool, true, false, cond, None, Some, Option, List, [], ◌∷◌, length, map, refl, sym, ap, subst, ◌∙◌, arith, length-append}
 use Rattle.std.specs.Prelude.{filter, All}
 use Rattle.std.specs.List.{AllByRecursion}
-use Rattle.std.proofs.lemmas.List.{append-nil}
 use Rattle.std.proofs.lemmas.List.Elements.{All-from_recursion, All-weaker}
 use Rattle.limits.specs.declared.TheConstants.{MOST_BYTES}
 use Rattle.primitives.specs.declared.prim.Prim_.{Prim_}
@@ -17,17 +16,14 @@ use Rattle.dump_grammar.specs.ChainLines.{IsChainLine}
 use Rattle.dump_grammar.specs.declared.rule.RuleLine.{RuleLine}
 use Rattle.dump_grammar.specs.RuleLines.{IsRuleLine}
 use Rattle.dump_grammar.specs.Tables.{Placed, names_of, IsBadLine}
-use Rattle.dump_grammar.specs.Reads.{rule_of, is_in, dump_of, HasFilter, IsDump, IsMalformed}
+use Rattle.dump_grammar.specs.Reads.{rule_of, is_in, dump_of, HasFilter, IsDump}
 use Rattle.dump_read.specs.declared.fault.ReadFault.{ReadFault}
 use Rattle.dump_read.specs.declared.state.Part.{Part}
-use Rattle.dump_read.specs.declared.state.Reading.{Reading}
-use Rattle.dump_read.specs.inner.Parts.{BeginsWithLine}
+use Rattle.dump_read.specs.declared.state.State.{State}
 use Rattle.dump_read.specs.inner.Positions.{Filter, Position, Opens, Adds, Moves, Step, Leads}
 use Rattle.dump_read.specs.inner.States.{AreWritable, IsFirstUndeclared, Shows, EndsWith, EndsAs}
 use Rattle.dump_read.specs.Answers.{IsFaultOf, IsPrintableDump, RuleHasAtMost, ChainHasAtMost, HasAtMost}
-use Rattle.basics.proofs.Lists.{no_cons}
-use Rattle.dump_read.proofs.LineLemmas.{lines_of_text}
-use Rattle.dump_read.proofs.FitLemmas.{start, join, bad_of, bad_at_end}
+use Rattle.dump_read.proofs.FitLemmas.{start, bad_at_end}
 use Rattle.dump_read.proofs.ReadingLemmas.{has_filter_of, no_filter_of}
 
 length_names : (cs : List Declared) → length (names_of cs) ≡ length cs
@@ -78,72 +74,29 @@ module _ (W : ℕ) (Reads : Text → ℕ → Type 0) where
       let more = leads_size a.0 lines q a.1.1 in
       omega (arith, first, more)
 
-  names_few : (state : Reading W) (p : Position W) → Shows state p → length state.names ≤ size p
+  names_few : (state : State W) (p : Position W) → Shows state p → length state.names ≤ size p
   names_few state (Position.Outside None) s = omega (arith, ap length s.1.1.names)
   names_few state (Position.Outside (Some (cs, rs))) s = omega (arith, ap length s.1.1.names, length_names cs)
   names_few state (Position.Passing None) s = omega (arith, ap length s.1.1.names)
   names_few state (Position.Passing (Some (cs, rs))) s = omega (arith, ap length s.1.1.names, length_names cs)
   names_few state (Position.Inside cs rs) s = omega (arith, ap length s.2.names, length_names cs)
 
-  -- the lines so far lead to where the state stands; what completes the rest completes the text
-  pub record IsRead (state : Reading W) (text rest : Text) (lines : ℕ) : Type 0 where
+  -- how many names there are, at most
+  pub names_below : (state : State W) (p : Position W) (lines : List Text) → Leads W Reads (start W Reads) (numbered_from 1 lines) p → Shows state p → length state.names ≤ length lines
+  names_below state p lines x s =
+      let a = names_few state p s in
+      let b = leads_size (start W Reads) (numbered_from 1 lines) p x in
+      omega (arith, a, b, length_numbered 1 lines)
+
+  -- the text is these lines, and they lead to where the state stands
+  pub record IsRead (state : State W) (text : Text) (lines : ℕ) : Type 0 where
     pub done : List Text
     pub position : Position W
     pub leads : Leads W Reads (start W Reads) (numbered_from 1 done) position
     pub shows : Shows state position
     pub count : lines ≡ length done
-    pub fits : length done + length rest ≤ length text
-    pub parts : (more : List Text) → AreLines more rest → AreLines (done ++ more) text
-
-  pub read_none : (state : Reading W) (text : Text) → Shows state (Position.Outside None) → IsRead state text text 0
-  read_none state text s = record {
-    done = [];
-    position = Position.Outside None;
-    leads = refl;
-    shows = s;
-    count = refl;
-    fits = omega arith;
-    parts = λ more h. h;
-  }
-
-  pub read_few : (state : Reading W) (text rest : Text) (lines : ℕ) → IsRead state text rest lines → length state.names + length rest ≤ length text
-  read_few state text rest lines r =
-      let a = names_few state r.position r.shows in
-      let b = leads_size (start W Reads) (numbered_from 1 r.done) r.position r.leads in
-      let d = r.fits in
-      omega (arith, a, b, d, length_numbered 1 r.done)
-
-  pub read_count : (state : Reading W) (text rest : Text) (lines : ℕ) → IsRead state text rest lines → lines + length rest ≤ length text
-  read_count state text rest lines r = let d = r.fits in omega (arith, d, r.count)
-
-  no_more : (more : List Text) (rest : Text) → rest ≡ [] → AreLines more rest → more ≡ []
-  no_more [] rest e h = refl
-  no_more (line ∷ more) rest e (is, inl w) = absurd (no_cons line 10 w.0 (sym w.1 ∙ e))
-  no_more (line ∷ more) rest e (is, inr w) = absurd (w.1 (sym w.0 ∙ e))
-
-  pub read_more : (old new : Reading W) (text rest line after : Text) (lines : ℕ) → IsRead old text rest lines → BeginsWithLine rest line after → length after < length rest →
-      ((p : Position W) → Shows old p → (q : Position W) × (Step W Reads p (record { number = lines + 1; bytes = line }) q × Shows new q)) → IsRead new text after (lines + 1)
-  read_more old new text rest line after lines r begins shorter takes =
-      let t = takes r.position r.shows in
-      let n : lines + 1 ≡ 1 + length r.done = omega (arith, r.count) in
-      let step = subst (λ (m : ℕ). Step W Reads r.position (record { number = m; bytes = line }) t.0) n t.1.0 in
-      record {
-        done = r.done ++ line ∷ [];
-        position = t.0;
-        leads = join W Reads r.done (line ∷ []) r.position t.0 r.leads (t.0, (step, refl));
-        shows = t.1.1;
-        count = omega (arith, r.count, length-append r.done (line ∷ []));
-        fits = (let d = r.fits in omega (arith, d, shorter, length-append r.done (line ∷ [])));
-        parts = λ more h. subst (λ (z : List Text). AreLines z text) (sym (append_assoc r.done (line ∷ []) more)) (r.parts (line ∷ more) (by begins.1 more h));
-      }
-    where
-      by : (rest ≡ line ++ 10 ∷ after) ⊎ ((rest ≡ line) × (after ≡ [])) → (more : List Text) → AreLines more after → AreLines (line ∷ more) rest
-      by (inl e) more h = (begins.0, inl (after, e, h))
-      by (inr e) more h = (begins.0, inr (e.0, (λ none. omega (arith, shorter, ap length e.0, ap length none)), no_more more after e.1 h))
-
-  begun : (rest line after : Text) → BeginsWithLine rest line after → length after < length rest → (more : List Text) × AreLines (line ∷ more) rest
-  begun rest line after (is, inl e) shorter = let m = lines_of_text after in (m.0, (is, inl (after, e, m.1)))
-  begun rest line after (is, inr e) shorter = ([], (is, inr (e.0, (λ none. omega (arith, shorter, ap length e.0, ap length none)), refl)))
+    pub fits : length done ≤ length text
+    pub parted : AreLines done text
 
   -- the most that a text gives
   abbrev Small : Rule (Prim_ W) → Type 0
@@ -205,30 +158,29 @@ module _ (W : ℕ) (Reads : Text → ℕ → Type 0) where
   printable_of cs rs h =
       All-from_recursion (λ (here : Chain (Prim_ W)). All (λ (rule : Rule (Prim_ W)). AllByRecursion IsPrintableLiteral rule.lits) here.rules) ((dump_of cs rs).chains) (printable_chains cs rs h)
 
-  pub read_printable : (state : Reading W) (text rest : Text) (lines : ℕ) (dump : Dump (Prim_ W)) → IsRead state text rest lines →
+  pub read_printable : (state : State W) (text : Text) (lines : ℕ) (dump : Dump (Prim_ W)) → IsRead state text lines →
       ((p : Position W) → Shows state p → EndsAs p dump) → IsPrintableDump dump
-  read_printable state text rest lines dump r answers =
+  read_printable state text lines dump r answers =
       let a = answers r.position r.shows in
       subst IsPrintableDump (sym a.dump_is) (printable_of a.chains a.rules a.writable)
 
   -- the whole text is read
-  pub read_dump_of : (state : Reading W) (text rest : Text) (lines : ℕ) (dump : Dump (Prim_ W)) → IsRead state text rest lines → rest ≡ [] →
+  pub read_dump_of : (state : State W) (text : Text) (lines : ℕ) (dump : Dump (Prim_ W)) → IsRead state text lines →
       ((p : Position W) → Shows state p → EndsAs p dump) → IsDump W Reads text dump
-  read_dump_of state text rest lines dump r e answers =
+  read_dump_of state text lines dump r answers =
       let a = answers r.position r.shows in
-      let parted = subst (λ (z : List Text). AreLines z text) (append-nil r.done) (r.parts [] e) in
       record {
         chains = a.chains;
         rules = a.rules;
-        filter_is = has_filter_of W Reads text r.done a.chains a.rules parted (subst (Leads W Reads (start W Reads) (numbered_from 1 r.done)) a.there r.leads);
+        filter_is = has_filter_of W Reads text r.done a.chains a.rules r.parted (subst (Leads W Reads (start W Reads) (numbered_from 1 r.done)) a.there r.leads);
         declared = a.declared;
         dump_is = a.dump_is;
       }
 
-  pub read_small : (state : Reading W) (text rest : Text) (lines : ℕ) (dump : Dump (Prim_ W))
-      → IsRead state text rest lines → length text ≤ MOST_BYTES →
+  pub read_small : (state : State W) (text : Text) (lines : ℕ) (dump : Dump (Prim_ W))
+      → IsRead state text lines → length text ≤ MOST_BYTES →
       ((p : Position W) → Shows state p → EndsAs p dump) → HasAtMost MOST_BYTES dump
-  read_small state text rest lines dump r small answers =
+  read_small state text lines dump r small answers =
       let a = answers r.position r.shows in
       let b = leads_size (start W Reads) (numbered_from 1 r.done) r.position r.leads in
       let d = r.fits in
@@ -239,39 +191,21 @@ module _ (W : ℕ) (Reads : Text → ℕ → Type 0) where
 module _ (W : ℕ) (Reads : Text → ℕ → Type 0)
     (one_chain : (words : List Word) (a b : Declared) → IsChainLine words a → IsChainLine words b → a ≡ b)
     (one_rule : (names : List Text) (words : List Word) (a b : RuleLine W) → IsRuleLine Reads names words a → IsRuleLine Reads names words b → a ≡ b) where
-  -- a line leads nowhere
-  pub read_malformed : (state : Reading W) (text rest line after : Text) (lines : ℕ) → IsRead W Reads state text rest lines → BeginsWithLine rest line after → length after < length rest →
-      ((p q : Position W) → Shows state p → Step W Reads p (record { number = lines + 1; bytes = line }) q → ⊥) → IsMalformed W Reads text (lines + 1)
-  read_malformed state text rest line after lines r begins shorter sticks =
-      let m = begun W Reads rest line after begins shorter in
-      let n : lines + 1 ≡ 1 + length r.done = omega (arith, r.count) in
-      let e : length r.done + 1 ≡ lines + 1 = omega (arith, r.count) in
-      let stuck : (q : Position W) → Step W Reads r.position (record { number = 1 + length r.done; bytes = line }) q → ⊥ =
-      λ q step. sticks r.position q r.shows (subst (λ (k : ℕ). Step W Reads r.position (record { number = k; bytes = line }) q) (sym n) step) in
-      record {
-        lines = r.done ++ line ∷ m.0;
-        parted = r.parts (line ∷ m.0) m.1;
-        bad = subst (IsBadLine W Reads (r.done ++ line ∷ m.0)) e (bad_of W Reads one_chain one_rule r.done line m.0 r.position r.leads stuck);
-      }
-
   -- what is told at the end of the text is the text's own fault
-  pub read_fault : (state : Reading W) (text rest : Text) (lines : ℕ) (fault : ReadFault) → IsRead W Reads state text rest lines → rest ≡ [] →
+  pub read_fault : (state : State W) (text : Text) (lines : ℕ) (fault : ReadFault) → IsRead W Reads state text lines →
       ((p : Position W) → Shows state p → EndsWith p lines fault) → IsFaultOf W Reads text fault
-  read_fault state text rest lines (ReadFault.Malformed n) r e ends =
+  read_fault state text lines (ReadFault.Malformed n) r ends =
       let t = ends r.position r.shows in
-      let parted = subst (λ (z : List Text). AreLines z text) (append-nil r.done) (r.parts [] e) in
       let m : length r.done + 1 ≡ n = omega (arith, r.count, t.0) in
-      record { lines = r.done; parted = parted; bad = subst (IsBadLine W Reads r.done) m (bad_at_end W Reads one_chain one_rule r.done r.position r.leads t.1) }
-  read_fault state text rest lines ReadFault.NoFilter r e ends =
+      record { lines = r.done; parted = r.parted; bad = subst (IsBadLine W Reads r.done) m (bad_at_end W Reads one_chain one_rule r.done r.position r.leads t.1) }
+  read_fault state text lines ReadFault.NoFilter r ends =
       let t = ends r.position r.shows in
-      let parted = subst (λ (z : List Text). AreLines z text) (append-nil r.done) (r.parts [] e) in
-      no_filter_of W Reads text r.done parted (subst (Leads W Reads (start W Reads) (numbered_from 1 r.done)) t r.leads)
-  read_fault state text rest lines (ReadFault.UndefinedChain n) r e ends =
+      no_filter_of W Reads text r.done r.parted (subst (Leads W Reads (start W Reads) (numbered_from 1 r.done)) t r.leads)
+  read_fault state text lines (ReadFault.UndefinedChain n) r ends =
       let t = ends r.position r.shows in
       let u = t.2.1 in
-      let parted = subst (λ (z : List Text). AreLines z text) (append-nil r.done) (r.parts [] e) in
       let there = subst (Leads W Reads (start W Reads) (numbered_from 1 r.done)) t.2.0 r.leads in
-      let is = has_filter_of W Reads text r.done t.0 t.1 parted there in
+      let is = has_filter_of W Reads text r.done t.0 t.1 r.parted there in
       record {
         chains = t.0;
         before = u.0;
@@ -282,11 +216,11 @@ module _ (W : ℕ) (Reads : Text → ℕ → Type 0)
         undeclared = u.3.2;
         number_is = u.3.3;
       }
-  read_fault state text rest lines ReadFault.Memory r e ends = tt
+  read_fault state text lines ReadFault.Memory r ends = tt
 
 module _ {W : ℕ} where
   -- outside a table at the end, a rule's chain isn't declared
-  pub ends_undefined : (state : Reading W) (p : Position W) (lines n : ℕ) → state.part ≡ Part.Outside → state.has_filter ≡ true → state.undefined ≡ Some n → Shows state p → EndsWith p lines (ReadFault.UndefinedChain n)
+  pub ends_undefined : (state : State W) (p : Position W) (lines n : ℕ) → state.part ≡ Part.Outside → state.has_filter ≡ true → state.undefined ≡ Some n → Shows state p → EndsWith p lines (ReadFault.UndefinedChain n)
   ends_undefined state (Position.Outside None) lines n part found undefined s = absurd (let d : true ≡ false = sym found ∙ s.1.0 in cc)
   ends_undefined state (Position.Outside (Some (cs, rs))) lines n part found undefined s = (cs, rs, (refl, subst (IsFirstUndeclared cs rs) undefined s.1.1.undefined))
   ends_undefined state (Position.Passing f) lines n part found undefined s = absurd (let d : Part.Outside ≡ Part.Passed = sym part ∙ s.0 in cc)

@@ -13,7 +13,7 @@ use Rattle.dump_grammar.specs.ChainLines.{is_among}
 use Rattle.dump_grammar.specs.Groups.{all_differ}
 use Rattle.dump_grammar.specs.Tables.{Placed, names_of}
 use Rattle.dump_grammar.specs.Reads.{rule_of, is_in}
-use Rattle.dump_read.specs.declared.state.Reading.{Reading}
+use Rattle.dump_read.specs.declared.state.State.{State}
 use Rattle.dump_read.specs.inner.States.{has_any, with_rule, IsWritable, IsFirstUndeclared, Keeps}
 use Rattle.basics.proofs.Lists.{no_cons}
 use Rattle.basics.proofs.Truths.{clash}
@@ -133,7 +133,7 @@ module _ {W : ℕ} where
   none_undeclared cs ds (r ∷ rs) u e h = cc
 
   -- one chain more
-  pub chain_added : (old new : Reading W) (cs : List Declared) (rs : List (Placed W)) (c : Declared) → Keeps old cs rs → old.has_rules ≡ false →
+  pub chain_added : (old new : State W) (cs : List Declared) (rs : List (Placed W)) (c : Declared) → Keeps old cs rs → old.has_rules ≡ false →
       is_among (names_of cs) c.name ≡ false → new.names ≡ old.names ++ c.name ∷ [] → new.chains.items ≡ old.chains.items ++ record { name = c.name; policy = c.policy; rules = [] } ∷ [] →
       new.has_rules ≡ old.has_rules → new.undefined ≡ old.undefined → Keeps new (cs ++ c ∷ []) []
   chain_added old new cs rs c k none fresh names chains ruled undefined =
@@ -158,7 +158,7 @@ module _ {W : ℕ} where
   all_push P (r ∷ rs) p h q = (h.0, all_push P rs p h.1 q)
 
   -- one rule more, of a chain that is declared
-  pub rule_added : (old new : Reading W) (cs : List Declared) (rs : List (Placed W)) (p : Placed W) (k : ℕ) (d : Chain (Prim_ W)) → Keeps old cs rs → IsWritable p.rule →
+  pub rule_added : (old new : State W) (cs : List Declared) (rs : List (Placed W)) (p : Placed W) (k : ℕ) (d : Chain (Prim_ W)) → Keeps old cs rs → IsWritable p.rule →
       position (bytes_eq p.rule.chain) old.names ≡ Some k → new.names ≡ old.names → new.chains.items ≡ set old.chains.items k (with_rule (get_or old.chains.items k d) (rule_of p)) →
       new.has_rules ≡ true → new.undefined ≡ old.undefined → Keeps new cs (rs ++ p ∷ [])
   rule_added old new cs rs p k d keeps few there names chains ruled undefined =
@@ -179,7 +179,7 @@ module _ {W : ℕ} where
           (before, q, after ++ p ∷ [], (ap (λ (z : List (Placed W)). z ++ p ∷ []) h.0 ∙ append_assoc before (q ∷ after) (p ∷ []), h.1, h.2, h.3))
 
   -- one rule more, of a chain that isn't declared
-  pub rule_kept : (old new : Reading W) (cs : List Declared) (rs : List (Placed W)) (p : Placed W) → Keeps old cs rs → IsWritable p.rule →
+  pub rule_kept : (old new : State W) (cs : List Declared) (rs : List (Placed W)) (p : Placed W) → Keeps old cs rs → IsWritable p.rule →
       position (bytes_eq p.rule.chain) old.names ≡ None → new.names ≡ old.names → new.chains.items ≡ old.chains.items →
       new.has_rules ≡ true → (new.undefined ≡ cond (is_some old.undefined) old.undefined (Some p.number)) → Keeps new cs (rs ++ p ∷ [])
   rule_kept old new cs rs p keeps few there names chains ruled undefined =

@@ -1,10 +1,13 @@
 -- Laws of the grammar of dumps: what a text can be, it is in one way.
-use Rattle.std.specs.Prelude.{ℕ, ◌≡◌, List, ◌++◌}
+use Rattle.std.specs.Prelude.{ℕ, ◌≡◌, List, ◌++◌, Result, Err, IfErr, IfOk}
 use Rattle.primitives.specs.declared.prim.Prim_.{Prim_}
 use Rattle.fw_rule.specs.declared.rule.Dump.{Dump}
 use Rattle.dump_grammar.specs.Lines.{Text}
 use Rattle.dump_grammar.specs.Tables.{Fit}
 use Rattle.dump_grammar.specs.Reads.{IsDump, IsMalformed, HasNoFilter, IsUndefinedLine}
+use Rattle.dump_read.specs.declared.fault.ReadFault.{ReadFault}
+use Rattle.dump_read.specs.Answers.{IsFaultOf}
+use Rattle.dump_read.specs.Pieces.{IsEarlyFaultOf}
 
 module _ (W : ℕ) (Reads : Text → ℕ → Type 0) where
   -- a text is at most one dump
@@ -31,3 +34,17 @@ module _ (W : ℕ) (Reads : Text → ℕ → Type 0) where
   -- lines that fit still do where lines at their end are left out
   abbrev pub FrontsFit : Type 0
   FrontsFit = (front more : List Text) → Fit W Reads (front ++ more) → Fit W Reads front
+
+  -- the dump that the text is, or its own fault
+  abbrev pub IsAnswerTo : Text → Result (Dump (Prim_ W)) ReadFault → Type 0
+  IsAnswerTo text answer = IfOk answer (IsDump W Reads text) × IfErr answer (IsFaultOf W Reads text)
+
+  -- a text has one answer, but for want of memory
+  abbrev pub HasOneAnswer : Text → Type 0
+  HasOneAnswer text = (a b : Result (Dump (Prim_ W)) ReadFault) → IsAnswerTo text a → IsAnswerTo text b
+      → (a ≡ Err ReadFault.Memory → ⊥) → (b ≡ Err ReadFault.Memory → ⊥) → a ≡ b
+
+  -- a fault that is told before the end of a text stays one, whatever follows
+  abbrev pub EarlyFaultsStay : Type 0
+  EarlyFaultsStay =
+      (front more : Text) (fault : ReadFault) → IsEarlyFaultOf W Reads front fault → IsEarlyFaultOf W Reads (front ++ more) fault

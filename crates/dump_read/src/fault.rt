@@ -21,6 +21,16 @@ pub enum ReadFault {
     Memory,
 }
 
+impl From<AllocError> for ReadFault {
+    ghost use Rattle.dump_read.specs.declared.fault.ReadFault.TheVariants.{Memory};
+
+    ghost from_gives = { λ _ e. e ≡ Memory };
+
+    fn from(_: AllocError) -> Self {
+        ReadFault::Memory
+    }
+}
+
 /// Why a line isn't taken.
 #[derive(Clone, Copy, Debug, PartialEq, Eq)]
 pub(crate) enum LineFault {

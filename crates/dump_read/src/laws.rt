@@ -1,5 +1,5 @@
 ghost use Rattle.std.specs.Prelude.{◌≤◌};
-ghost use Rattle.dump_read.specs.Laws.{ExcludeEachOther, FrontsFit, HasOneDump, HasOneMalformedLine, HasOneUndefinedLine};
+ghost use Rattle.dump_read.specs.Laws.{EarlyFaultsStay, ExcludeEachOther, FrontsFit, HasOneAnswer, HasOneDump, HasOneMalformedLine, HasOneUndefinedLine};
 
 use addr_text::Family;
 
@@ -22,6 +22,20 @@ pub fn one_kind<F: Family<W>, const W: u32>(text: &[u8])
 {
     let _ = text;
 }
+
+/// That a text has one answer, a dump or a fault, but for want of memory. So it doesn't hang on how the text is cut into
+/// pieces. The call itself does nothing.
+pub fn one_reading<F: Family<W>, const W: u32>(text: &[u8])
+    requires { W ≤ 128 }
+    ensures { HasOneAnswer W F.Reads text.now }
+{
+    let _ = text;
+}
+
+/// That a fault which is told before the end of a text stays one, whatever follows. The call itself does nothing.
+pub fn early_faults_stay<F: Family<W>, const W: u32>()
+    ensures { EarlyFaultsStay W F.Reads }
+{}
 
 /// That a front of lines that fit fits. The call itself does nothing.
 pub fn fronts_fit<F: Family<W>, const W: u32>()

@@ -1,30 +1,28 @@
-ghost use Rattle.std.specs.Prelude.{◌≡◌, ◌↔◌, ◌≤◌, ◌<◌, ◌∷◌, [], ℕ, List as Seq, IfErr, IfNone, IfOk, IfSome, IsTrue, length};
+ghost use Rattle.std.specs.Prelude.{◌≡◌, ◌↔◌, ◌≤◌, ◌<◌, ◌∷◌, ◌++◌, ℕ, List as Seq, IfErr, IfNone, IfOk, IfSome, IsTrue, length};
 ghost use Rattle.limits.specs.declared.TheConstants.{MOST_BYTES};
 ghost use Rattle.dump_token.specs.Words.{is_blank, AreBlanks};
-ghost use Rattle.dump_grammar.specs.Lines.{HasWords, Word, is_passed_over, words_of};
+ghost use Rattle.dump_grammar.specs.Lines.{HasWords, IsLine, Word, is_passed_over, words_of};
 ghost use Rattle.dump_grammar.specs.Tables.{IsCommit};
-ghost use Rattle.dump_read.specs.inner.Parts.{BeginsWithLine, FollowsBlanks, OnMalformed};
+ghost use Rattle.dump_read.specs.inner.Parts.{FollowsBlanks, OnMalformed};
 
 use crate::fault::LineFault;
 use dump_token::{Token, TokenFault, tokens};
 use match_expr::List;
 use std::alloc::Global;
 
-/// The first line, without its line feed, and what follows it. `None` comes exactly where the text is empty.
-pub(crate) fn first_line(text: &[u8]) -> Option<(&[u8], &[u8])>
-    ensures some { IfSome result (λ p. BeginsWithLine text.now p.0.now p.1.now) }
-    ensures none { IfNone result (text.now ≡ []) }
-    ensures shorter { IfSome result (λ p. (length p.0.now ≤ length text.now) × (length p.1.now < length text.now)) }
+/// The first line that a line feed ends, without it, and what follows it. `None` comes exactly where there is no line
+/// feed.
+pub(crate) fn ended_line(text: &[u8]) -> Option<(&[u8], &[u8])>
+    ensures some { IfSome result (λ p. IsLine p.0.now × (text.now ≡ p.0.now ++ 10 ∷ p.1.now)) }
+    ensures none { IfNone result (IsLine text.now) }
+    ensures shorter { IfSome result (λ p. length p.1.now < length text.now) }
 {
-    if text.is_empty() {
-        return None;
-    }
     for (i, b) in text.iter().enumerate() {
         if *b == b'\n' {
             return Some((&text[..i], &text[i + 1..]));
         }
     }
-    Some((text, &text[text.len()..]))
+    None
 }
 
 fn is_blank_byte(b: u8) -> bool

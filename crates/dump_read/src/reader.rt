@@ -1,42 +1,16 @@
-ghost use Rattle.std.specs.Prelude.{◌≡◌, ◌≤◌, ◌<◌, ℕ, IfErr, IfOk, length};
+ghost use Rattle.std.specs.Prelude.{◌≤◌, ℕ, IfErr, IfOk, length};
 ghost use Rattle.limits.specs.declared.TheConstants.{MOST_BYTES};
 ghost use Rattle.fw_rule.specs.Calls.{HasRoom};
 ghost use Rattle.interval_set.specs.Numbers.{IsWidth};
 ghost use Rattle.dump_grammar.specs.Reads.{IsDump};
 ghost use Rattle.dump_read.specs.Answers.{HasAtMost, IsFaultOf, IsPrintableDump};
-ghost use Rattle.dump_read.specs.inner.Positions.{Position};
-ghost use Rattle.dump_read.specs.inner.States.{EndsAs, EndsWith, Shows};
 
-use crate::fault::{LineFault, ReadFault};
-use crate::lines::first_line;
-use crate::state::{Part, Reading};
-use crate::steps::take_line;
+use crate::fault::ReadFault;
+use crate::reading::Reading;
 use addr_text::Family;
 use fw_rule::Dump;
-use match_expr::List;
 use primitives::Prim_;
 use std::alloc::Global;
-
-// What the text is, of which so many lines were taken.
-fn finish<const W: u32>(state: Reading<W>, lines: u32) -> Result<Dump<Prim_<W>>, ReadFault>
-    requires { lines ≤ MOST_BYTES }
-    ensures ok { IfOk result (λ dump. (p : Position W) → Shows state.entry p → EndsAs p dump) }
-    ensures fault { IfErr result (λ fault. (p : Position W) → Shows state.entry p → EndsWith p lines fault) }
-{
-    if state.part != Part::Outside {
-        return Err(ReadFault::Malformed { line: lines + 1 });
-    }
-    if !state.has_filter {
-        return Err(ReadFault::NoFilter);
-    }
-    if let Some(line) = state.undefined {
-        return Err(ReadFault::UndefinedChain { line });
-    }
-    let Reading { chains, .. } = state;
-    Ok(Dump {
-        chains: List::of(chains),
-    })
-}
 
 /// The dump that a text of at most `limits::MOST_BYTES` bytes is. It has at most so many chains, each chain so many rules, and each
 /// rule so many literals.
@@ -58,16 +32,9 @@ pub fn read_dump<F: Family<W>, const W: u32>(
     ensures room { IfOk result HasRoom }
     ensures printable { IfOk result IsPrintableDump }
 {
-    let mut state = Reading::new(alloc);
-    let mut rest = text;
-    let mut lines = 0;
-    while let Some((line, after)) = first_line(rest) {
-        lines += 1;
-        match take_line::<F, W>(alloc, &mut state, line, lines) {
-            Ok(()) => rest = after,
-            Err(LineFault::Malformed) => return Err(ReadFault::Malformed { line: lines }),
-            Err(LineFault::Memory) => return Err(ReadFault::Memory),
-        }
+    let mut reading = Reading::<F, W>::new(alloc);
+    match reading.feed(alloc, text) {
+        Ok(()) => reading.finish(alloc),
+        Err(fault) => Err(fault),
     }
-    finish(state, lines)
 }

@@ -7,7 +7,7 @@ ghost use Rattle.dump_read.specs.inner.Parts.{OnMalformed};
 ghost use Rattle.dump_read.specs.inner.States.{IsWritable, Keeps, with_rule};
 
 use crate::fault::LineFault;
-use crate::state::Reading;
+use crate::state::State;
 use dump_grammar::{Declared, RuleLine};
 use fw_rule::{Chain, Rule};
 use match_expr::List;
@@ -28,7 +28,7 @@ fn push_rule<P: Drop>(alloc: Global, chain: &mut Chain<P>, rule: Rule<P>) -> Res
 /// Adds a chain that a line declares.
 pub(crate) fn add_chain<const W: u32>(
     alloc: Global,
-    state: &mut Reading<W>,
+    state: &mut State<W>,
     chain: Declared,
 ) -> Result<(), LineFault>
     requires { length state.old.names < MOST_BYTES }
@@ -57,7 +57,7 @@ pub(crate) fn add_chain<const W: u32>(
 /// Adds a rule of this line to its chain.
 pub(crate) fn add_rule<const W: u32>(
     alloc: Global,
-    state: &mut Reading<W>,
+    state: &mut State<W>,
     rule: RuleLine<W>,
     line: u32,
 ) -> Result<(), AllocError>

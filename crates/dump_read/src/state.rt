@@ -1,5 +1,7 @@
+use crate::fault::ReadFault;
 use chain_names::ChainNames;
-use fw_rule::Chain;
+use fw_rule::{Chain, Dump};
+use match_expr::List;
 use primitives::Prim_;
 use std::alloc::Global;
 
@@ -16,7 +18,7 @@ pub(crate) enum Part {
 
 /// What was read of a text so far.
 #[derive(Drop)]
-pub(crate) struct Reading<const W: u32> {
+pub(crate) struct State<const W: u32> {
     /// The part that the next line stands in.
     pub part: Part,
     /// Whether `filter` was opened.
@@ -31,16 +33,17 @@ pub(crate) struct Reading<const W: u32> {
     pub undefined: Option<u32>,
 }
 
-impl<const W: u32> Reading<W> {
-    ghost use Rattle.std.specs.Prelude.{None};
+impl<const W: u32> State<W> {
+    ghost use Rattle.std.specs.Prelude.{◌≤◌, None, IfErr, IfOk};
+    ghost use Rattle.limits.specs.declared.TheConstants.{MOST_BYTES};
     ghost use Rattle.dump_read.specs.inner.Positions.{Position};
-    ghost use Rattle.dump_read.specs.inner.States.{Shows};
+    ghost use Rattle.dump_read.specs.inner.States.{EndsAs, EndsWith, Shows};
 
     /// The state before the first line.
-    pub(crate) fn new(alloc: Global) -> Reading<W>
+    pub(crate) fn new(alloc: Global) -> State<W>
         ensures { Shows result (Position.Outside None) }
     {
-        Reading {
+        State {
             part: Part::Outside,
             has_filter: false,
             has_rules: false,
@@ -48,5 +51,25 @@ impl<const W: u32> Reading<W> {
             chains: Vec::new(alloc),
             undefined: None,
         }
+    }
+    /// What the text is, of which so many lines were taken.
+    pub(crate) fn end(self, lines: u32) -> Result<Dump<Prim_<W>>, ReadFault>
+        requires { lines ≤ MOST_BYTES }
+        ensures ok { IfOk result (λ dump. (p : Position W) → Shows self.entry p → EndsAs p dump) }
+        ensures fault { IfErr result (λ fault. (p : Position W) → Shows self.entry p → EndsWith p lines fault) }
+    {
+        if self.part != Part::Outside {
+            return Err(ReadFault::Malformed { line: lines + 1 });
+        }
+        if !self.has_filter {
+            return Err(ReadFault::NoFilter);
+        }
+        if let Some(line) = self.undefined {
+            return Err(ReadFault::UndefinedChain { line });
+        }
+        let State { chains, .. } = self;
+        Ok(Dump {
+            chains: List::of(chains),
+        })
     }
 }

@@ -12,7 +12,7 @@ use crate::fault::LineFault;
 use crate::keywords::{is_close, table_name};
 use crate::lines::{is_commit, is_over, line_words};
 use crate::rules::{add_chain, add_rule};
-use crate::state::{Part, Reading};
+use crate::state::{Part, State};
 use addr_text::Family;
 use dump_grammar::{chain_line, rule_line};
 use std::alloc::Global;
@@ -20,7 +20,7 @@ use std::alloc::Global;
 // Opens the table that a line outside of tables names.
 fn open_table<F: Family<W>, const W: u32>(
     alloc: Global,
-    state: &mut Reading<W>,
+    state: &mut State<W>,
     line: &[u8],
 ) -> Result<(), LineFault>
     requires { length line.now ≤ MOST_BYTES }
@@ -46,7 +46,7 @@ fn open_table<F: Family<W>, const W: u32>(
 }
 
 // Passes over a line of a table that isn't read.
-fn pass_line<F: Family<W>, const W: u32>(state: &mut Reading<W>, line: &[u8])
+fn pass_line<F: Family<W>, const W: u32>(state: &mut State<W>, line: &[u8])
     ensures { (found : Maybe (Filter W)) (n : ℕ) → Shows state.old (Position.Passing found) →
         (q : Position W) × (Moves W F.Reads (Position.Passing found) (record { number = n; bytes = line.now }) q × Shows state.new q) }
 {
@@ -58,7 +58,7 @@ fn pass_line<F: Family<W>, const W: u32>(state: &mut Reading<W>, line: &[u8])
 // Adds what a line of `filter` says.
 fn add_line<F: Family<W>, const W: u32>(
     alloc: Global,
-    state: &mut Reading<W>,
+    state: &mut State<W>,
     line: &[u8],
     number: u32,
 ) -> Result<(), LineFault>
@@ -90,7 +90,7 @@ fn add_line<F: Family<W>, const W: u32>(
 /// Takes the next line, which has this number.
 pub(crate) fn take_line<F: Family<W>, const W: u32>(
     alloc: Global,
-    state: &mut Reading<W>,
+    state: &mut State<W>,
     line: &[u8],
     number: u32,
 ) -> Result<(), LineFault>

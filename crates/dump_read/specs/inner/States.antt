@@ -15,7 +15,7 @@ use Rattle.dump_grammar.specs.Reads.{dump_of}
 use Rattle.fw_rule.specs.declared.rule.Dump.{Dump}
 use Rattle.dump_read.specs.declared.fault.ReadFault.{ReadFault}
 use Rattle.dump_read.specs.declared.state.Part.{Part}
-use Rattle.dump_read.specs.declared.state.Reading.{Reading}
+use Rattle.dump_read.specs.declared.state.State.{State}
 use Rattle.dump_read.specs.inner.Positions.{Filter, Position}
 
 -- whether there is a rule
@@ -47,7 +47,7 @@ module _ {W : ℕ} where
       ((rules ≡ before ++ placed ∷ after) × AreDeclared chains before × (is_among (names_of chains) placed.rule.chain ≡ false) × (placed.number ≡ n))
 
   -- the state has these chains and rules of filter
-  pub record Keeps (state : Reading W) (chains : List Declared) (rules : List (Placed W)) : Type 0 where
+  pub record Keeps (state : State W) (chains : List Declared) (rules : List (Placed W)) : Type 0 where
     pub names : state.names ≡ names_of chains
     pub differ : all_differ (names_of chains) ≡ true
     pub dumped : state.chains.items ≡ (dump_of chains rules).chains
@@ -56,12 +56,12 @@ module _ {W : ℕ} where
     pub writable : AreWritable rules
 
   -- the state has what filter had, if it came
-  abbrev pub Knows : Reading W → Option (Filter W) → Type 0
+  abbrev pub Knows : State W → Option (Filter W) → Type 0
   Knows state None = (state.has_filter ≡ false) × Keeps state [] []
   Knows state (Some (chains, rules)) = (state.has_filter ≡ true) × Keeps state chains rules
 
   -- the state is that of a reader who stands there
-  abbrev pub Shows : Reading W → Position W → Type 0
+  abbrev pub Shows : State W → Position W → Type 0
   Shows state (Position.Outside found) = (state.part ≡ Part.Outside) × Knows state found
   Shows state (Position.Passing found) = (state.part ≡ Part.Passed) × Knows state found
   Shows state (Position.Inside chains rules) = (state.part ≡ Part.Filter) × (state.has_filter ≡ true) × Keeps state chains rules

@@ -5,7 +5,7 @@ use Rattle.fw_rule.specs.declared.rule.Chain.{Chain}
 use Rattle.primitives.specs.declared.prim.Prim_.{Prim_}
 use Rattle.dump_grammar.specs.Tables.{Placed}
 use Rattle.dump_grammar.specs.Reads.{rule_of}
-use Rattle.dump_read.specs.declared.state.Reading.{Reading}
+use Rattle.dump_read.specs.declared.state.State.{State}
 use Rattle.dump_read.specs.inner.States.{Keeps, with_rule}
 use Rattle.dump_read.proofs.StateLemmas.{rule_added, rule_kept}
 use Rattle.dump_read.proofs.rules.add_rule.Goals as goal
@@ -18,10 +18,10 @@ returns-in_default-clause-added g c chains rules keeps =
     let p : Placed g.row.W = record { number = c.args.line; rule = c.args.rule } in
     elim c.if-is_none.branch [
       | then-is_none w ↦
-          subst (λ (s : Reading g.row.W). Keeps s chains (rules ++ p ∷ [])) (sym w.state-is)
+          subst (λ (s : State g.row.W). Keeps s chains (rules ++ p ∷ [])) (sym w.state-is)
           (rule_kept c.args.state.now _ chains rules p keeps c.requires.writable there refl refl refl (ap (λ b. cond b c.args.state.now.undefined (Some c.args.line)) (sym w.if-is_none.ensures)))
       | else-is_none w ↦
-          subst (λ (s : Reading g.row.W). Keeps s chains (rules ++ p ∷ [])) (sym w.state-is)
+          subst (λ (s : State g.row.W). Keeps s chains (rules ++ p ∷ [])) (sym w.state-is)
           (rule_kept c.args.state.now _ chains rules p keeps c.requires.writable there refl refl refl (ap (λ b. cond b c.args.state.now.undefined (Some c.args.line)) (sym w.if-is_none.ensures)))
     ]
 

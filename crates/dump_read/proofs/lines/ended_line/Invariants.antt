@@ -1,6 +1,6 @@
 use Rattle.std.proofs.Common.{◌≢◌, take}
 use Rattle.std.specs.List.{AllByRecursion}
-use Rattle.dump_read.proofs.lines.first_line.Given as goal
+use Rattle.dump_read.proofs.lines.ended_line.Given as goal
 
 abbrev pub invariant-loop-i : goal.invariant-loop-i
 invariant-loop-i l = AllByRecursion (λ b. b ≢ 10) (take l.i l.text)
