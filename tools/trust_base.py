@@ -283,7 +283,9 @@ def root(text):
 
 
 GRAMMARS = ['addr_text.Grammar.IsIpv4', 'addr_text.Grammar.IsIpv6', 'fffuu_run.Questions.AsksChain']
-RUN = ['fffuu_run.Runs.IsRun', 'fw_io.Causes.Rose']
+RUN = ['fffuu_run.Runs.IsStreamed', 'fw_io.Causes.Rose']
+# The same clauses once more, where a source tells what is left and a sink what it holds.
+TOLD = ['fffuu_run.Runs.IsRun']
 STREAMS = [Type('fw_io', ('traits',), 'Source'), Type('fw_io', ('traits',), 'Sink')]
 # What a measure of `run` leaves out, by crate: words of the command line, refusals and limits, other modes, and which bytes are written.
 WORDS = {('request', 'Spells'), ('request', 'chain_in')}
@@ -300,7 +302,7 @@ MEASURES = {
     'headline': ('all three as clauses of `run`', RUN, STREAMS, OTHERS | BYTES | REFUSALS | WORDS),
     'words': ('the same with the words of the command line', RUN, STREAMS, OTHERS | BYTES | REFUSALS),
     'bytes': ('all modes, with the bytes that are written', RUN, STREAMS, REFUSALS),
-    'all': ('all that the contract of `run` cites, with each refusal and each line on standard error', RUN + [
+    'all': ('all that the contract of `run` cites, with each refusal and each line on standard error', RUN + TOLD + [
         'request.Requests.Spells', 'fffuu_run.Lines.line_of', 'fffuu_run.Runs.IsRead', 'fffuu_run.Runs.IsStatusOf',
         'fffuu_run.Runs.Devices', 'fffuu_run.Runs.WritesLine', 'fffuu_run.Runs.Writes', 'request.Requests.chain_in'], STREAMS, set()),
 }

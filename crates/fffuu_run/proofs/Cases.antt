@@ -8,7 +8,7 @@ use Rattle.request.specs.declared.types.Mode.TheVariants as mode
 use Rattle.request.specs.declared.types.Request.{Request}
 use Rattle.fffuu_run.specs.Lines.{line_of}
 use Rattle.fffuu_run.specs.Answers.{IsAnswer, IsOutputIn, IsRefusedAs, RefusesModeIn}
-use Rattle.fffuu_run.specs.Runs.{AnswersTo, Device, Devices, IsDue, IsRead, IsReported, IsRun, IsRunOf, IsStatusOf, KeepsSink, ReadsTooMuch, ReadsWhole, StandsFor, WritesLine}
+use Rattle.fffuu_run.specs.Runs.{AnswersTo, Device, Devices, GivesFor, IsDue, IsPassed, IsRead, IsReported, IsRun, IsRunOf, IsStatusOf, KeepsSink, ReadsTooMuch, ReadsWhole, StandsFor, Streams, WritesLine}
 use Rattle.fffuu_run.specs.declared.status.Status.{Status}
 use Rattle.fffuu_run.specs.declared.status.Status.TheVariants as status
 use Rattle.fffuu_run.proofs.Causes.{IsRefusal, is_refusal, no_cause, one_cause}
@@ -180,6 +180,22 @@ pub refusal_works : (request : Request) (old new : Devices) (text : List ℕ) (s
     → KeepsSink old new → (s ≡ status.Memory) ⊎ IsRefusedAs request text s → IsRunOf request old new s
 refusal_works request old new text s whole kept (inl memory) = subst (IsRunOf request old new) (sym memory) kept
 refusal_works request old new text s whole kept (inr refuses) = told request old new text s whole kept refuses (is_refusal request text s refuses)
+
+-- so it is where the text is what was given
+told_of : (request : Request) (old new : Streams) (text : List ℕ) (s : Status) → GivesFor request.mode old.source new.source text
+    → new.acknowledged ≡ old.acknowledged → IsRefusedAs request text s → IsRefusal s → IsPassed request old new s
+told_of request old new text status.Ok whole kept refuses kind = absurd kind
+told_of request old new text status.Usage whole kept refuses kind = absurd kind
+told_of request old new text status.ReadFault whole kept refuses kind = absurd kind
+told_of request old new text status.WriteFault whole kept refuses kind = absurd kind
+told_of request old new text status.InputTooLong whole kept refuses kind = absurd kind
+told_of request old new text status.Memory whole kept refuses kind = kept
+told_of request old new text s whole kept refuses kind = (text, whole, refuses, kept)
+
+pub refusal_passes : (request : Request) (old new : Streams) (text : List ℕ) (s : Status) → GivesFor request.mode old.source new.source text
+    → new.acknowledged ≡ old.acknowledged → (s ≡ status.Memory) ⊎ IsRefusedAs request text s → IsPassed request old new s
+refusal_passes request old new text s whole kept (inl memory) = subst (IsPassed request old new) (sym memory) kept
+refusal_passes request old new text s whole kept (inr refuses) = told_of request old new text s whole kept refuses (is_refusal request text s refuses)
 
 -- the asked name stands in the line of one status alone
 same_line : (a b : List ℕ) (s : Status) → (s ≡ status.NoChain → a ≡ b) → line_of a s ≡ line_of b s

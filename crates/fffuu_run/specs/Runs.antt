@@ -1,5 +1,5 @@
 -- How a run ends, by its status.
-use Rattle.std.specs.Prelude.{◌≡◌, ◌<◌, ◌≤◌, ◌+◌, ◌++◌, ◌⊎◌, [], ℕ, List, Option, length}
+use Rattle.std.specs.Prelude.{◌≡◌, ◌<◌, ◌≤◌, ◌+◌, ◌++◌, ◌⊎◌, [], ℕ, Bool, true, List, Option, length}
 use Rattle.std.specs.Io.KnownBytes.{Appends, Consumes, IsAtEnd}
 use Rattle.fw_io.specs.Causes.{Rose}
 use Rattle.limits.specs.declared.TheConstants.{MOST_BYTES}
@@ -79,6 +79,52 @@ IsRunOf request old new status.Memory = KeepsSink old new
 IsRunOf request old new s = (text : List ℕ) × AnswersTo request.mode old.source new.source text
     × IsRefusedAs request text s × KeepsSink old new
 
+-- what a source gave so far, and whether the last read that asked for bytes gave none
+pub record Intake : Type 0 where
+  pub given : List ℕ
+  pub ended : Bool
+
+-- the same, and what a sink acknowledged so far
+pub record Streams : Type 0 where
+  pub source : Intake
+  pub acknowledged : List ℕ
+
+-- the reads gave the text, up to one that gave none
+pub record GivesWhole (old new : Intake) (text : List ℕ) : Type 0 where
+  pub given : new.given ≡ old.given ++ text
+  pub ended : new.ended ≡ true
+  pub short : length text ≤ MOST_BYTES
+
+-- the reads gave the text that the mode answers to; for a load there was no read, and the text is any
+abbrev pub GivesFor : Mode → Intake → Intake → List ℕ → Type 0
+GivesFor (mode.Load n) old new text = (new.given ≡ old.given) × (new.ended ≡ old.ended)
+GivesFor m old new text = GivesWhole old new text
+
+-- the reads gave a text that is one byte too long
+pub record GivesTooMuch (old new : Intake) (text : List ℕ) : Type 0 where
+  pub given : new.given ≡ old.given ++ text
+  pub long : length text ≡ MOST_BYTES + 1
+
+-- the writes acknowledged less than the whole text
+pub record AcknowledgesPart (old new text sent rest : List ℕ) : Type 0 where
+  pub acknowledged : new ≡ old ++ sent
+  pub split : text ≡ sent ++ rest
+  pub proper : 0 < length rest
+
+-- what a status says of what went by in a run of a request
+abbrev pub IsPassed : Request → Streams → Streams → Status → Type 0
+IsPassed request old new status.Ok = (text written : List ℕ) × GivesFor request.mode old.source new.source text
+    × IsAnswer request text written × (new.acknowledged ≡ old.acknowledged ++ written)
+IsPassed request old new status.Usage = ⊥
+IsPassed request old new status.ReadFault = IsRead request.mode × (new.acknowledged ≡ old.acknowledged)
+IsPassed request old new status.InputTooLong = IsRead request.mode
+    × (text : List ℕ) × GivesTooMuch old.source new.source text × (new.acknowledged ≡ old.acknowledged)
+IsPassed request old new status.WriteFault = (text written sent rest : List ℕ) × GivesFor request.mode old.source new.source text
+    × IsAnswer request text written × AcknowledgesPart old.acknowledged new.acknowledged written sent rest
+IsPassed request old new status.Memory = new.acknowledged ≡ old.acknowledged
+IsPassed request old new s = (text : List ℕ) × GivesFor request.mode old.source new.source text
+    × IsRefusedAs request text s × (new.acknowledged ≡ old.acknowledged)
+
 -- the statuses with which something may have been written
 abbrev pub Writes : Status → Type 0
 Writes status.Ok = Unit {0}
@@ -90,6 +136,13 @@ abbrev pub IsRun : List (List ℕ) → Devices → Devices → Status → Type 0
 IsRun words old new status.Usage = ((request : Request) → Spells words request → ⊥) × (new ≡ old)
 IsRun words old new status.Memory = KeepsSink old new
 IsRun words old new s = (request : Request) × Spells words request × IsRunOf request old new s
+
+-- what a status says of what went by in a run: so of every source and sink, also of one that doesn't tell what is left
+-- or held
+abbrev pub IsStreamed : List (List ℕ) → Streams → Streams → Status → Type 0
+IsStreamed words old new status.Usage = ((request : Request) → Spells words request → ⊥) × (new ≡ old)
+IsStreamed words old new status.Memory = new.acknowledged ≡ old.acknowledged
+IsStreamed words old new s = (request : Request) × Spells words request × IsPassed request old new s
 
 -- the text isn't too long for a mode that reads it
 abbrev pub IsShort : Mode → List ℕ → Type 0

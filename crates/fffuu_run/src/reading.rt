@@ -1,5 +1,6 @@
-ghost use Rattle.std.specs.Prelude.{◌≡◌, ◌<◌, ◌≤◌, List, ℕ, IfOk, IsErrOf, length};
+ghost use Rattle.std.specs.Prelude.{◌≡◌, ◌<◌, ◌≤◌, ◌+◌, ◌++◌, List, ℕ, IfOk, IsErrOf, length, true};
 ghost use Rattle.fw_io.specs.Causes.{Rose};
+ghost use Rattle.limits.specs.declared.TheConstants.{MOST_BYTES};
 ghost use Rattle.fffuu_run.specs.Runs.{ReadsTooMuch, ReadsWhole};
 ghost use Rattle.fffuu_run.specs.declared.reading.ReadError.TheVariants.{Memory};
 
@@ -32,6 +33,11 @@ pub fn read_all<S: Source>(alloc: Global, source: &mut S) -> Result<Vec<u8>, Rea
     ensures too_long { IsErrOf result ReadError.TooLong
         → (text : List ℕ) × ReadsTooMuch (S.left source.old) (S.left source.new) text }
     ensures later { S.faults source.old ≤ S.faults source.new }
+    ensures steady { S.faults source.old < S.faults source.new → IsErrOf result ReadError.Failed }
+    ensures given { IfOk result (λ text. S.given source.new ≡ S.given source.old ++ text.items) }
+    ensures ended { IfOk result (λ _. S.ended source.new ≡ true) }
+    ensures given_too_much { IsErrOf result ReadError.TooLong
+        → (text : List ℕ) × (S.given source.new ≡ S.given source.old ++ text) × (length text ≡ MOST_BYTES + 1) }
 {
     let mut buffer = vec![in alloc; 0u8; PIECE]?;
     read_through(alloc, source, buffer.as_mut_slice())
@@ -49,6 +55,11 @@ fn read_through<S: Source>(
     ensures too_long { IsErrOf result ReadError.TooLong
         → (text : List ℕ) × ReadsTooMuch (S.left source.old) (S.left source.new) text }
     ensures later { S.faults source.old ≤ S.faults source.new }
+    ensures steady { S.faults source.old < S.faults source.new → IsErrOf result ReadError.Failed }
+    ensures given { IfOk result (λ text. S.given source.new ≡ S.given source.old ++ text.items) }
+    ensures ended { IfOk result (λ _. S.ended source.new ≡ true) }
+    ensures given_too_much { IsErrOf result ReadError.TooLong
+        → (text : List ℕ) × (S.given source.new ≡ S.given source.old ++ text) × (length text ≡ MOST_BYTES + 1) }
 {
     let mut text = Vec::new(alloc);
     while text.len() <= MOST_BYTES {

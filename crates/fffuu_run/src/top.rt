@@ -1,9 +1,9 @@
-ghost use Rattle.std.specs.Prelude.{◌≡◌, ◌⊎◌, ℕ, List, IfSome, map, string_bytes};
+ghost use Rattle.std.specs.Prelude.{◌≡◌, ◌<◌, ◌⊎◌, ℕ, List, IfSome, map, string_bytes};
 ghost use Rattle.fw_io.specs.Causes.{Rose};
 ghost use Rattle.request.specs.Requests.{Spells, chain_in};
 ghost use Rattle.request.specs.declared.types.Request.{Request as ARequest};
 ghost use Rattle.fffuu_run.specs.Lines.{line_of};
-ghost use Rattle.fffuu_run.specs.Runs.{Device, Devices, IsRead, IsRun, IsStatusOf, WritesLine, Writes};
+ghost use Rattle.fffuu_run.specs.Runs.{Device, Devices, Intake, IsRead, IsRun, IsStatusOf, IsStreamed, Streams, WritesLine, Writes};
 
 use crate::Status;
 use crate::telling::report;
@@ -41,6 +41,12 @@ fn answered<S: Source, O: Sink>(
           sink = record { bytes = O.held out.new; faults = O.faults out.new };
         })
         result.status }
+    ensures streamed { IsStreamed (map string_bytes words.now.items)
+        (record { source = record { given = S.given source.old; ended = S.ended source.old }; acknowledged = O.acknowledged out.old })
+        (record { source = record { given = S.given source.new; ended = S.ended source.new }; acknowledged = O.acknowledged out.new })
+        result.status }
+    ensures rises { (S.faults source.old < S.faults source.new → result.status ≡ Status.ReadFault)
+        × (O.faults out.old < O.faults out.new → result.status ≡ Status.WriteFault) }
 {
     match spell(alloc, words) {
         Ok(request) => {
@@ -131,6 +137,17 @@ pub fn run<S: Source, O: Sink, E: Sink>(
     // A read or a write fails only where its count rises, so where none does the text alone decides, but for want of memory.
     ensures faults { (result ≡ Status.ReadFault → Rose (S.faults source.old) (S.faults source.new))
         × (result ≡ Status.WriteFault → Rose (O.faults out.old) (O.faults out.new)) }
+
+    // The same of what the reads gave, up to one that gave none, and of what the writes acknowledged: so of each source and sink, also of
+    // one that doesn't tell what is left or held.
+    ensures streamed { IsStreamed (map string_bytes words.now.items)
+        (record { source = record { given = S.given source.old; ended = S.ended source.old }; acknowledged = O.acknowledged out.old })
+        (record { source = record { given = S.given source.new; ended = S.ended source.new }; acknowledged = O.acknowledged out.new })
+        result }
+
+    // A read or a write that failed ends the run: where a count rose, that is the status.
+    ensures rises { (S.faults source.old < S.faults source.new → result ≡ Status.ReadFault)
+        × (O.faults out.old < O.faults out.new → result ≡ Status.WriteFault) }
 {
     let Ending { status, chain } = answered(alloc, words, source, out);
     report(alloc, chain.as_slice(), status, err)

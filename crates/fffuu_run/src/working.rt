@@ -1,8 +1,8 @@
-ghost use Rattle.std.specs.Prelude.{◌≡◌, ◌≤◌, ℕ, List, IfOk, IsErrOf, length};
+ghost use Rattle.std.specs.Prelude.{◌≡◌, ◌<◌, ◌≤◌, ℕ, List, IfOk, IsErrOf, length};
 ghost use Rattle.fw_io.specs.Causes.{Rose};
 ghost use Rattle.limits.specs.declared.TheConstants.{MOST_BYTES};
 ghost use Rattle.request.specs.Requests.{HasBounds};
-ghost use Rattle.fffuu_run.specs.Runs.{AnswersTo, Device, Devices, IsRead, IsRunOf, ReadsTooMuch, Writes};
+ghost use Rattle.fffuu_run.specs.Runs.{AnswersTo, Device, Devices, GivesFor, GivesTooMuch, Intake, IsPassed, IsRead, IsRunOf, ReadsTooMuch, Streams, Writes};
 
 use crate::Status;
 use crate::answering::answer;
@@ -22,6 +22,13 @@ fn text_for<S: Source>(alloc: Global, mode: &Mode, source: &mut S) -> Result<Vec
     ensures failed { IsErrOf result ReadError.Failed → IsRead mode.now × Rose (S.faults source.old) (S.faults source.new) }
     ensures too_long { IsErrOf result ReadError.TooLong
         → IsRead mode.now × ((text : List ℕ) × ReadsTooMuch (S.left source.old) (S.left source.new) text) }
+    ensures steady { S.faults source.old < S.faults source.new → IsErrOf result ReadError.Failed }
+    ensures gives { IfOk result (λ text. GivesFor mode.now
+        (record { given = S.given source.old; ended = S.ended source.old })
+        (record { given = S.given source.new; ended = S.ended source.new }) text.items) }
+    ensures gives_too_much { IsErrOf result ReadError.TooLong → (text : List ℕ) × GivesTooMuch
+        (record { given = S.given source.old; ended = S.ended source.old })
+        (record { given = S.given source.new; ended = S.ended source.new }) text }
 {
     match mode {
         Mode::Load(_) => Ok(Vec::new(alloc)),
@@ -50,6 +57,16 @@ pub fn work<S: Source, O: Sink>(
           sink = record { bytes = O.held out.new; faults = O.faults out.new };
         })
         result }
+
+    // The same of what the reads gave and the writes acknowledged.
+    ensures passed { IsPassed request.now
+        (record { source = record { given = S.given source.old; ended = S.ended source.old }; acknowledged = O.acknowledged out.old })
+        (record { source = record { given = S.given source.new; ended = S.ended source.new }; acknowledged = O.acknowledged out.new })
+        result }
+
+    // A call that failed ends the work.
+    ensures rises { (S.faults source.old < S.faults source.new → result ≡ Status.ReadFault)
+        × (O.faults out.old < O.faults out.new → result ≡ Status.WriteFault) }
 {
     let text = match text_for(alloc, &request.mode, source) {
         Ok(text) => text,

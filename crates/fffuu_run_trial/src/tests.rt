@@ -273,6 +273,79 @@ fn a_write_that_fails_leaves_what_went_out_before(rt: HostRuntime) -> Result<(),
     Ok(())
 }
 
+// A run of `upper` over the filter that reads and writes seven bytes at a time. The calls of the given numbers fail, and the
+// output has room for so many bytes.
+fn run_by_sevens(
+    alloc: Global,
+    reads: &[u64],
+    writes: &[u64],
+    tellings: &[u64],
+    room: u32,
+) -> Result<Ending, AllocError> {
+    let words = vec![in alloc; String::from_str(alloc, "upper")?]?;
+    let mut source = MemSource::new(
+        Bytes::of(FILTER.to_vec(alloc)?),
+        7,
+        List::of(reads.to_vec(alloc)?),
+    );
+    let mut out = MemSink::new(alloc, room, 7, List::of(writes.to_vec(alloc)?))?;
+    let mut err = MemSink::new(alloc, 100, 7, List::of(tellings.to_vec(alloc)?))?;
+    let status = run(alloc, &words, &mut source, &mut out, &mut err);
+    Ok(Ending {
+        status,
+        source,
+        out,
+        err,
+    })
+}
+
+// A run ended with this status and wrote so many bytes of the filter.
+fn wrote(rt: &impl Abort, end: &Ending, code: u8, count: usize) {
+    assert_eq!(rt; end.status.code(), code, "at {count}");
+    assert_eq!(rt; end.out.held().len(), count);
+    assert!(rt; FILTER.starts_with(end.out.held()), "at {count}");
+}
+
+#[test]
+fn each_read_that_fails_ends_the_run(rt: HostRuntime) -> Result<(), Fail> {
+    for call in 1u64..=11 {
+        wrote(
+            &rt,
+            &run_by_sevens(rt.alloc(), &[call], &[], &[], 70)?,
+            2,
+            0,
+        );
+    }
+    wrote(&rt, &run_by_sevens(rt.alloc(), &[12], &[], &[], 70)?, 0, 70);
+    Ok(())
+}
+
+#[test]
+fn each_write_that_fails_ends_the_run(rt: HostRuntime) -> Result<(), Fail> {
+    for done in 0u64..10 {
+        let end = run_by_sevens(rt.alloc(), &[], &[done + 1], &[], 70)?;
+        wrote(&rt, &end, 3, 7 * done as usize);
+    }
+    wrote(&rt, &run_by_sevens(rt.alloc(), &[], &[11], &[], 70)?, 0, 70);
+    Ok(())
+}
+
+#[test]
+fn a_full_output_holds_the_front_that_it_has_room_for(rt: HostRuntime) -> Result<(), Fail> {
+    for room in 0u32..70 {
+        let end = run_by_sevens(rt.alloc(), &[], &[], &[], room)?;
+        wrote(&rt, &end, 3, room as usize);
+    }
+    Ok(())
+}
+
+#[test]
+fn a_line_that_cannot_be_told_changes_no_status(rt: HostRuntime) -> Result<(), Fail> {
+    wrote(&rt, &run_by_sevens(rt.alloc(), &[1], &[], &[1], 70)?, 2, 0);
+    wrote(&rt, &run_by_sevens(rt.alloc(), &[], &[1], &[1], 70)?, 3, 0);
+    Ok(())
+}
+
 #[test]
 fn a_check_counts_the_whole_table(rt: HostRuntime) -> Result<(), Fail> {
     let input = b"*filter\n:FORWARD DROP [0:0]\n:C - [0:0]\n-A C -m socket -j ACCEPT\nCOMMIT\n";
