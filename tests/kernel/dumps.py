@@ -1,4 +1,5 @@
 """Random filters that the real tools take, and packets at the borders of their rules."""
+import dataclasses
 import ipaddress
 
 from lab import NAMES
@@ -17,6 +18,18 @@ STATES = ["INVALID", "NEW", "RELATED", "ESTABLISHED", "UNTRACKED"]
 LINES = {4: ["0.0.0.5", "9.255.255.255", "10.0.0.0", "10.0.0.1", "10.0.1.0", "10.255.255.255", "11.0.0.0", "192.168.1.7", "192.168.1.8", "223.255.255.255"],
          6: ["2001:db8::", "2001:db8::1", "2001:db8::2", "2001:db8:0:1::", "2001:db8:ffff:ffff:ffff:ffff:ffff:ffff", "2001:db9::", "fc00::1", "fec0::1"]}
 LENGTHS = {4: [1, 7, 8, 24, 31, 32], 6: [1, 31, 32, 64, 127, 128]}
+REFUSALS = {4: "icmp-port-unreachable", 6: "icmp6-port-unreachable"}
+
+
+@dataclasses.dataclass(frozen=True)
+class Corners:
+    """What packets are drawn from: names of interfaces, addresses, whose neighbours are drawn too, and ports."""
+    names: list
+    addresses: list
+    ports: list
+
+
+CORNERS = {family: Corners(NAMES, LINES[family], PORTS) for family in (4, 6)}
 
 
 def maybe_not(rng):
@@ -69,8 +82,8 @@ def matches(rng, family, kind):
     return found
 
 
-def target(rng, chains):
-    words = ["ACCEPT"] * 4 + ["DROP"] * 4 + ["RETURN"] * 2 + ["NFLOG --nflog-group 7", "CONNMARK --save-mark", "MARK --set-xmark 0x1/0xffffffff", ""] + chains * 2
+def target(rng, family, chains):
+    words = ["ACCEPT"] * 4 + ["DROP"] * 3 + [f"REJECT --reject-with {REFUSALS[family]}"] + ["RETURN"] * 2 + ["NFLOG --nflog-group 7", "CONNMARK --save-mark", "MARK --set-xmark 0x1/0xffffffff", ""] + chains * 2
     return rng.choice(words)
 
 
@@ -81,21 +94,48 @@ def text(rng, family, kind):
     lines += [f":{name} - [0:0]" for name in users]
     for at, name in enumerate(["FORWARD", *users]):
         for _ in range(rng.randrange(2, 8)):
-            goes = target(rng, users[at:])
-            lines.append(" ".join([f"-A {name}", *matches(rng, family, kind), *([f"-j {goes}"] if goes else [])]))
+            goes = target(rng, family, users[at:])
+            tests = matches(rng, family, kind)
+            # calls and returns to which many packets come
+            if goes in ("RETURN", *users) and rng.random() < 0.6:
+                tests = tests[:1]
+            lines.append(" ".join([f"-A {name}", *tests, *([f"-j {goes}"] if goes else [])]))
+    if rng.random() < 0.6:
+        # what comes to the end is decided otherwise than by the policy, so that a chain that is left too early shows
+        lines.append(f"-A FORWARD -j {'DROP' if 'FORWARD ACCEPT' in lines[2] else 'ACCEPT'}")
     return "\n".join([*lines, "COMMIT", ""])
 
 
-def address(rng, family):
-    value = int(ipaddress.ip_address(rng.choice(LINES[family]))) + rng.choice([-1, 0, 0, 0, 1])
+def doubtful_text(rng, family, kind):
+    """A filter table as iptables-restore takes it, and how many doubtful rules it has. Each of them asks for a bit of its own of the
+    packet's mark, and no chain is called twice, so that a mark is one truth of the unknown matches."""
+    users = ["A", "B"][:rng.randrange(3)]
+    rules = [[name, matches(rng, family, kind), target(rng, family, [])] for name in ["FORWARD", *users] for _ in range(rng.randrange(2, 6))]
+    rules = [[name, tests, "" if goes.startswith("MARK") else goes] for name, tests, goes in rules]
+    for at, name in enumerate(users):
+        rules.insert(rng.randrange(len(rules) + 1), [rng.choice(["FORWARD", *users[:at]]), matches(rng, family, kind), name])
+    decide = [at for at, (_, _, goes) in enumerate(rules) if goes.split(" ")[0] not in ("", "NFLOG", "CONNMARK")]
+    doubtful = rng.sample(decide, min(len(decide), 3))
+    for bit, at in enumerate(doubtful):
+        # most of them without another test, so that many packets come under them
+        rules[at][1] = rules[at][1] if rng.random() < 0.3 else []
+        rules[at][1].append(f"-m mark {maybe_not(rng)}--mark {1 << bit:#x}/{1 << bit:#x}")
+    lines = ["*filter", ":INPUT ACCEPT [0:0]", f":FORWARD {rng.choice(['ACCEPT', 'DROP'])} [0:0]", ":OUTPUT ACCEPT [0:0]", *[f":{name} - [0:0]" for name in users]]
+    lines += [" ".join([f"-A {name}", *tests, *([f"-j {goes}"] if goes else [])]) for name, tests, goes in rules]
+    return "\n".join([*lines, "COMMIT", ""]), len(doubtful)
+
+
+def address(rng, family, corners=None):
+    value = int(ipaddress.ip_address(rng.choice((corners or CORNERS[family]).addresses))) + rng.choice([-1, 0, 0, 0, 1])
     return min(max(value, 0), 2 ** (32 if family == 4 else 128) - 1)
 
 
-def packet(rng, family):
+def packet(rng, family, corners=None):
+    corners = corners or CORNERS[family]
     number = rng.choice(NUMBERS)
     # which number is the protocol behind an authentication header of IPv6 is a case of borders.py
     number = {1: 58, 51: 50}.get(number, number) if family == 6 else number
     with_ports = number in (6, 17, 33, 132, 136)
-    return Packet(family, rng.choice(NAMES), rng.choice(NAMES), address(rng, family), address(rng, family), number,
-                  rng.choice(PORTS) if with_ports else 0, rng.choice(PORTS) if with_ports else 0,
+    return Packet(family, rng.choice(corners.names), rng.choice(corners.names), address(rng, family, corners), address(rng, family, corners), number,
+                  rng.choice(corners.ports) if with_ports else 0, rng.choice(corners.ports) if with_ports else 0,
                   rng.choice([2, 2, 16, 18, 0, 1, 17, 63, rng.randrange(64)]) if number == 6 else 0)

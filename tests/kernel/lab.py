@@ -1,7 +1,7 @@
 """A router and its neighbours in two network namespaces: loads filters by the real tools, sends packets through the router, and
 tells which of them came out.
 
-The router has an interface for each name of NAMES. Nothing has an address, `lo` is down, and each far end is in the second
+The router has an interface for each name that is given, seven at most. Nothing has an address, `lo` is down, and each far end is in the second
 namespace, so that no packet leaves the two. By which interface a packet goes out is chosen by its TOS byte, so input and output
 are free. A packet is recognised on its way out by its mark (the identification of IPv4, the flow label of IPv6)."""
 import ctypes
@@ -14,8 +14,9 @@ import time
 NAMES = ["eth0", "eth1", "eth10", "ppp0", "br0", "wan"]
 TOOLS = ["iptables-legacy", "iptables-nft"]
 PROGRAMS = ["ip", *(tool + end for tool in TOOLS for end in ("", "-save", "-restore"))]
-TOS = {name: 4 * (at + 1) for at, name in enumerate(NAMES)}
 BATCH = 200
+# Seconds that a batch, or one run of a tool, may take, and seconds without a frame that end a batch.
+LONGEST, QUIET = 60, 0.02
 CLONE_NEWNET = 0x40000000
 
 libc = ctypes.CDLL(None, use_errno=True)
@@ -44,7 +45,10 @@ class Refused(Exception):
 
 
 class Lab:
-    def __init__(self):
+    def __init__(self, names=NAMES):
+        self.names = names
+        # the three highest bits of the byte are left for what a test measures
+        self.tos = {name: 4 * (at + 1) for at, name in enumerate(names[:7])}
         self.router, self.peers = f"fffuu-router-{os.getpid()}", f"fffuu-peers-{os.getpid()}"
         self.sockets, self.macs = {}, {}
 
@@ -63,7 +67,7 @@ class Lab:
             subprocess.run(["ip", "netns", "del", name], capture_output=True)
 
     def run(self, *words, text=None, namespace=None):
-        made = subprocess.run(["ip", "netns", "exec", namespace or self.router, *words], input=text, capture_output=True)
+        made = subprocess.run(["ip", "netns", "exec", namespace or self.router, *words], input=text, capture_output=True, timeout=LONGEST)
         if made.returncode != 0:
             raise Refused(made.stderr.decode(errors="replace").strip())
         return made.stdout
@@ -71,19 +75,19 @@ class Lab:
     def build(self):
         for name in (self.router, self.peers):
             subprocess.run(["ip", "netns", "add", name], check=True)
-        for at, name in enumerate(NAMES):
+        for name in self.names:
             subprocess.run(["ip", "link", "add", name, "netns", self.router, "type", "veth", "peer", "name", name, "netns", self.peers], check=True)
         self.settle()
         # a router without a table of its own addresses takes no next hop: one address that no packet has
-        self.run("ip", "link", "set", NAMES[0], "up")
-        self.run("ip", "route", "add", "local", "198.51.100.254/32", "dev", NAMES[0], "table", "local")
-        for at, name in enumerate(NAMES):
+        self.run("ip", "link", "set", self.names[0], "up")
+        self.run("ip", "route", "add", "local", "198.51.100.254/32", "dev", self.names[0], "table", "local")
+        for at, name in enumerate(self.names):
             self.join(at, name)
         self.open_sockets()
 
     def settle(self):
         values = ["net.ipv4.ip_forward=1", "net.ipv6.conf.all.forwarding=1", "net.ipv6.conf.default.accept_dad=0"]
-        for name in ["all", "default", *NAMES]:
+        for name in ["all", "default", *self.names]:
             values += [f"net.ipv4.conf.{name}.{key}" for key in ("rp_filter=0", "accept_local=1", "route_localnet=1", "send_redirects=0")]
         self.run("sysctl", "-qw", *values)
 
@@ -99,7 +103,7 @@ class Lab:
         for family, hop in (("-4", f"10.255.{at}.1"), ("-6", f"fe80::{at + 1}")):
             self.run("ip", family, "neigh", "add", hop, "lladdr", far, "dev", name, "nud", "permanent")
             self.run("ip", family, "route", "add", "default", "via", hop, "dev", name, "onlink", "table", table)
-            self.run("ip", family, "rule", "add", "priority", str(10 + at), "tos", hex(TOS[name]), "table", table)
+            self.run("ip", family, "rule", "add", "priority", str(10 + at), "tos", hex(self.tos[name]), "table", table)
 
     def open_sockets(self):
         """Raw sockets at the far ends. A socket stays in the namespace in which it was made."""
@@ -108,7 +112,7 @@ class Lab:
         try:
             if libc.setns(there, CLONE_NEWNET) != 0:
                 raise OSError(ctypes.get_errno(), "setns")
-            for name in NAMES:
+            for name in self.names:
                 made = socket.socket(socket.AF_PACKET, socket.SOCK_RAW, socket.ntohs(3))
                 made.setsockopt(socket.SOL_SOCKET, socket.SO_RCVBUF, 8 << 20)
                 made.bind((name, 0))
@@ -144,25 +148,22 @@ class Lab:
         self.drain()
         for at, packet in enumerate(packets):
             kind = b"\x08\x00" if packet.family == 4 else b"\x86\xdd"
-            self.sockets[packet.into].send(self.macs[packet.into] + kind + packet.frame(start + at + 1, TOS[packet.out]))
+            self.sockets[packet.into].send(self.macs[packet.into] + kind + packet.frame(start + at + 1, self.tos[packet.out]))
         # what is left out is what the router dropped: a quiet time ends the wait
-        last = time.monotonic()
-        while time.monotonic() - last < 0.02:
-            ready, _, _ = select.select(self.sockets.values(), [], [], 0.01)
+        until, ready = time.monotonic() + LONGEST, True
+        while ready and time.monotonic() < until:
+            ready, _, _ = select.select(self.sockets.values(), [], [], QUIET)
             for it in ready:
-                if self.collect(it, packets, found, start):
-                    last = time.monotonic()
+                self.collect(it, packets, found, start)
 
     def collect(self, it, packets, found, start):
-        some = False
         while True:
             try:
                 frame, where = it.recvfrom(4096)
             except BlockingIOError:
-                return some
+                return
             if where[2] == socket.PACKET_OUTGOING:
                 continue
-            some = True
             for at in marks_of(frame[14:]):
                 at -= start + 1
                 if 0 <= at < len(packets) and where[0] == packets[at].out and packets[at].is_in(frame[14:]):

@@ -93,6 +93,40 @@ class Packet:
         return data[8:40] == self.ends() and data[7] == 63 and data[6] == self.proto
 
 
+@dataclasses.dataclass(frozen=True)
+class Datagram(Packet):
+    """A datagram whose bytes behind the address header are given, and which of a longer one it is a part of (in units of 8 bytes)."""
+    given: bytes = b""
+    offset: int = 0
+
+    def body(self):
+        return self.given
+
+    def frame(self, mark, tos):
+        if self.family == 4:
+            head = struct.pack(">BBHHHBBH", 0x45, tos, 20 + len(self.given), mark, self.offset, 64, self.proto, 0) + self.ends()
+            return head[:10] + struct.pack(">H", sum_of(head)) + head[12:] + self.given
+        if not self.offset:
+            return super().frame(mark, tos)
+        part = struct.pack(">BBHI", self.proto, 0, self.offset << 3, mark)
+        return struct.pack(">IHBB", 6 << 28 | tos << 20 | mark, 8 + len(self.given), 44, 64) + self.ends() + part + self.given
+
+    def is_in(self, data):
+        if self.family == 6 and self.offset:
+            return data[8:40] == self.ends() and data[7] == 63 and data[6] == 44
+        return super().is_in(data)
+
+
+def error_of(packet, src):
+    """The ICMP error by which a router at this source answers a packet: its destination can't be reached."""
+    quoted = packet.frame(1, 0)
+    number, words = (1, (3, 1)) if packet.family == 4 else (58, (1, 0))
+    made = Datagram(packet.family, packet.out, packet.into, src, packet.src, number)
+    body = struct.pack(">BBHI", *words, 0, 0) + quoted
+    pseudo = b"" if packet.family == 4 else made.pseudo(len(body))
+    return dataclasses.replace(made, given=body[:2] + struct.pack(">H", sum_of(pseudo + body)) + body[4:])
+
+
 def icmp(kind, _):
     body = struct.pack(">BBHHH", kind, 0, 0, 1, 1)
     return body[:2] + struct.pack(">H", sum_of(body)) + body[4:]
