@@ -55,7 +55,7 @@ def sure_refusal(share):
     flags = (b"SYN", b"ACK", b"FIN")
     pairs += [b"-A C -p tcp -m tcp --tcp-flags %s %s -m conntrack --ctstate %s -j RETURN\n" % (flag, flag, state)
               for flag in flags for state in states][:11]
-    return wrapped(b":C - [0:0]\n-A FORWARD -p tcp -j C\n", *pairs, b"-A C -j ACCEPT\n" * int(50_000 * share))
+    return wrapped(b":C - [0:0]\n-A FORWARD -p tcp -j C\n", *pairs, b"-A C -j ACCEPT\n" * int(40_000 * share))
 
 
 def names(share):
@@ -116,7 +116,7 @@ measure([
     ("the same with a verdict at the end", "upper", late_verdict),
     ("131,000 doubtful returns", "upper", doubtful_returns()),
     ("the same with an accept behind", "upper", doubtful_returns(b"-A FORWARD -s 10.0.0.1/32 -j ACCEPT\n")),
-    ("50,000 accepts of 15,972 cubes each", "upper", sure_refusal),
+    ("40,000 accepts of 15,972 cubes each", "upper", sure_refusal),
     ("returns for 16,000 interfaces", "upper", names),
     ("20,000 drops of another interface, all pieces", "spoof eth0=127.0.0.0/8", pieces(20_000, b"-A FORWARD -i eth1 -j DROP\n")),
     ("20,000 accepts of another source, all pieces", "spoof eth0=127.0.0.0/8", pieces(20_000, b"-A FORWARD -s 8.8.8.8/32 -j ACCEPT\n")),

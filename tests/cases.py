@@ -342,6 +342,14 @@ def region_drops(*more):
     return wrapped(":FORWARD ACCEPT [0:0]", *lines, *more)
 
 
+def paired_drops(count):
+    """Drops for every pair of a net of one address and a port, after which 256 times as many regions are left as `count` plus one."""
+    lines = ["-A FORWARD ! -p tcp -j DROP"]
+    lines += [f"-A FORWARD -s 10.0.{i >> 8}.{i & 255}/32 -d 192.168.0.0/16 -j DROP" for i in range(1, count + 1)]
+    lines += [f"-A FORWARD -p tcp -m tcp --sport {i} --dport 1 -j DROP" for i in range(1, 256)]
+    return wrapped(":FORWARD ACCEPT [0:0]", *lines)
+
+
 ONE_MORE = "-A FORWARD -s 3.0.0.1/32 -d 2.0.0.0/32 -p udp -j DROP"
 
 
@@ -365,6 +373,9 @@ LIMITS = {
     "4,096 boundaries": ("matrix tcp:1:1", even_nets(2048), prints(even_classes(2048))),
     "4,098 boundaries": ("matrix tcp:1:1", even_nets(2049), limit("atoms")),
     "65,536 regions": ("spoof eth0=9.9.9.9", region_drops(), prints(FORGED)),
+    "65,536 regions of tcp": ("spoof eth0=127.0.0.0/8", paired_drops(255), prints(
+        "eth0 violated in=eth0 out= src=0.0.0.0 dst=0.0.0.0 proto=6 sport=0 dport=0 flags=NONE state=NEW\n")),
+    "65,792 regions of tcp": ("spoof eth0=127.0.0.0/8", paired_drops(256), limit("regions")),
     "more regions": ("spoof eth0=9.9.9.9", region_drops(ONE_MORE), limit("regions")),
     "more regions behind the answer": ("spoof eth0=9.9.9.9", region_drops("-A FORWARD -s 200.0.0.0/8 -p udp -j ACCEPT", ONE_MORE),
                                        prints(FORGED.replace("src=0.0.0.0", "src=200.0.0.0").replace("proto=0", "proto=17"))),

@@ -59,12 +59,12 @@ def table(*lines, policy="DROP"):
 
 def helps():
     status, out, _ = view("--help")
-    says("--help says what it is", out, "only calls the program", "why", "json", "graph", "report", "fleet")
+    says("--help says what it is", out, "asks the program", "why", "json", "graph", "report", "fleet")
     check("--help ends well", status, 0)
     for name in ("why", "json", "graph", "report", "fleet"):
         status, out, _ = view(name, "--help")
         check(f"{name} --help ends well", status, 0)
-        says(f"{name} --help", out, "example: fffuu-view " + name, "only calls the program")
+        says(f"{name} --help", out, "example: fffuu-view " + name, "asks the program")
     said = subprocess.run(["git", "describe", "--tags", "--always", "--dirty"], cwd=TOP, capture_output=True, text=True).stdout.strip()
     if said:
         check("--version", view("--version")[1], f"fffuu-view {said}\n")
@@ -335,7 +335,7 @@ def reports():
     says("it names the source port", out, "40000\u219280", "source port 40000")
     says("what isn't understood", out, "limit --limit", "24: -A WAN -p icmp -m limit --limit 10/sec -j ACCEPT", "24, 26")
     says("addresses", out, "may: elsewhere \u2192 192.168.1.10")
-    says("it says that it proves nothing", out, "only calls the program", "nat")
+    says("it says that it proves nothing", out, "asks the program", "nat")
     gateways()
     claims()
     names()

@@ -1,9 +1,9 @@
-"""The companion of fffuu: it calls the program and shows what it printed. It proves nothing."""
+"""The companion of fffuu: it asks the program and shows what it said. It proves nothing."""
 import os
 import subprocess
 
 FOLDER = os.path.dirname(os.path.realpath(__file__))
-NOTE = ("fffuu-view only calls the program fffuu and shows what it printed. The answers of fffuu are proved; "
+NOTE = ("fffuu-view asks the program fffuu and shows what it said. The answers of fffuu are proved; "
         "fffuu-view itself, and how it lays them out, is not.")
 
 

@@ -24,7 +24,7 @@ LIMITS = {
     "lines": "the filter has more than 262,144 lines: lists of ports and ranges of addresses in one rule multiply",
     "atoms": "the addresses in the rules part all addresses at more than 4,096 places",
     "regions": "the forged packets fall into more than 65,536 pieces",
-    "visits": "the packet comes to more than 16,777,216 rules over all paths of calls",
+    "visits": "there are more than 16,777,216 rules over all paths of calls",
 }
 
 

@@ -76,7 +76,7 @@ def head_section(asked: Asked, wanted: Wanted, tables: Dict[str, object]) -> Lis
     lines.append(page.paragraph(f"{said}IPv{asked.family}. SHA-256 of the dump {asked.digest()}.", "grey"))
     lines.append(page.paragraph("Only packets that open a connection (state NEW) are asked about. Tables other than filter are not looked at: "
                                 "what nat sends elsewhere meets the rules by its new address. A match that fffuu doesn't understand may hold or "
-                                "not, anew for each packet.", "grey"))
+                                "not, anew at each visit of a rule.", "grey"))
     return lines + [page.legend()]
 
 
