@@ -46,6 +46,12 @@ def long(share):
     return wrapped(line * int(min(131_072, MOST // len(line)) * share))
 
 
+def sources(share):
+    """Returns by every second address, and an accept. The set of the sources that are left has one range more with each."""
+    returns = (b"-A C -s 10.%d.%d.%d/32 -j RETURN\n" % (number >> 15 & 255, number >> 7 & 255, number << 1 & 255) for number in range(int(16_384 * share)))
+    return called(b"-A FORWARD -j C\n", *returns, b"-A C -j ACCEPT\n")
+
+
 def outside(share):
     return wrapped(b"-A FORWARD ! -s 10.0.0.0/8 -j ACCEPT\n" * int(131_072 * share))
 
@@ -62,4 +68,5 @@ measure([
     ("doubtful calls of eight chains", "upper", doubtful),
     ("the same", "lower", doubtful),
     ("16,777,216 visits", "explain", visits),
+    ("returns by 16,384 sources", "upper", sources),
 ])

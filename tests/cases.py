@@ -26,14 +26,19 @@ DOUBTFUL_CALL = wrapped(":FORWARD DROP [0:0]", ":BLOCK - [0:0]", "-A FORWARD -m 
 LIMITED_ACCEPT = wrapped(":FORWARD DROP [0:0]", ":L - [0:0]", "-A FORWARD -j L", "-A FORWARD -j L", "-A L -m limit --limit 5/min -j ACCEPT")
 MANY_CALLS = wrapped(":FORWARD DROP [0:0]", ":C - [0:0]", *["-A FORWARD -m limit --limit 1/sec -j C"] * 64,
                      "-A C -m limit --limit 1/sec -j RETURN")
+TWO_DROPS = wrapped(":FORWARD ACCEPT [0:0]", ":C - [0:0]", "-A FORWARD -j C", "-A C -m addrtype --dst-type LOCAL -j RETURN", "-A C -j DROP",
+                    "-A C -j DROP")
+TWO_UNKNOWN = forward("-m limit --limit 5/sec -p tcp -m addrtype --dst-type LOCAL -j ACCEPT")
 TWO_NAMES = wrapped(":FORWARD DROP [0:0]", ":C1 - [0:0]", "-A FORWARD -j C1", "-A C1 -i eth0 -j RETURN", "-A C1 -i eth1 -j RETURN",
                     "-A C1 -j ACCEPT")
+TWO_CALLS_DOWN = wrapped(":FORWARD DROP [0:0]", ":C - [0:0]", ":D - [0:0]", "-A FORWARD -j C", "-A C -j D",
+                         "-A D -m limit --limit 5/min -m recent --rcheck -j ACCEPT")
 
 
-def doubling(count):
-    """Chains of which each calls the next one twice."""
+def doubling(count, by="-j"):
+    """Chains of which each calls the next one, or goes to it, twice."""
     chains = [f":N{i} - [0:0]" for i in range(1, count + 1)]
-    calls = [f"-A N{i} -j N{i + 1}" for i in range(1, count) for _ in range(2)]
+    calls = [f"-A N{i} {by} N{i + 1}" for i in range(1, count) for _ in range(2)]
     return wrapped(":FORWARD DROP [0:0]", *chains, "-A FORWARD -j N1", *calls, f"-A N{count} -j ACCEPT")
 
 
@@ -144,10 +149,98 @@ CASES = {
     "one visit of a limited accept is enough": (
         "explain src=10.0.0.1", LIMITED_ACCEPT, prints("accept under 1\nFORWARD 2 > L 1 literal 1\ndrop under 0\n")),
     "a drop behind a doubtful return explained": ("explain src=10.0.0.1", DOUBTFUL_RETURN, prints("accept never\ndrop under 0\n")),
+    "calls of a chain without rules, and a target that goes on": (
+        "lower", wrapped(":FORWARD DROP [0:0]", ":C - [0:0]", "-A FORWARD -j C", "-A FORWARD -j C", "-A FORWARD -j LOG", "-A FORWARD -j ACCEPT"),
+        prints(forward("-j ACCEPT"))),
+    "two unknown matches two calls down": ("upper", TWO_CALLS_DOWN, prints(forward("-j ACCEPT"))),
+    "two unknown matches two calls down need not hold": ("lower", TWO_CALLS_DOWN, prints(forward())),
+    "two unknown matches two calls down explained": (
+        "explain", TWO_CALLS_DOWN, prints("accept under 2\nFORWARD 1 > C 1 > D 1 literal 1\nFORWARD 1 > C 1 > D 1 literal 2\ndrop under 0\n")),
+    "a doubtful return saves from two drops": ("explain", TWO_DROPS, prints("accept under 1\nFORWARD 1 > C 1 literal 1\ndrop under 0\n")),
+    "all unknown matches of a rule hold": (
+        "explain proto=tcp", TWO_UNKNOWN, prints("accept under 2\nFORWARD 1 literal 1\nFORWARD 1 literal 3\ndrop under 0\n")),
+    "a known match that fails leaves no choice": ("explain proto=udp", TWO_UNKNOWN, prints("accept never\ndrop under 0\n")),
     "doubling calls are too many visits": ("explain", doubling(24), limit("visits")),
     "doubling calls are too many nodes": ("upper", doubling(18), limit("nodes")),
+    "doubling gotos are too many visits": ("explain", doubling(24, "-g"), limit("visits")),
+    "doubling gotos are too many nodes": ("upper", doubling(17, "-g"), limit("nodes")),
+    "a negated port leaves other protocols and then other ports": (
+        "upper", forward("-m tcp ! --dport 22 -j ACCEPT"),
+        prints(forward("! -p tcp -j ACCEPT", "-p tcp -m multiport --dports 0:21,23:65535 -j ACCEPT"))),
+    "negated flags leave other protocols and then other flags": (
+        "upper", forward("-m tcp ! --tcp-flags ALL SYN -j ACCEPT"),
+        prints(forward("! -p tcp -j ACCEPT", *(f"-p tcp -m tcp --tcp-flags {flags} -j ACCEPT" for flags in
+                                               ("FIN,SYN NONE", "FIN,SYN,RST,PSH,ACK,URG SYN,URG", "FIN,SYN,RST,PSH,ACK SYN,ACK",
+                                                "FIN,SYN,RST,PSH SYN,PSH", "FIN,SYN,RST SYN,RST", "FIN FIN"))))),
+    "doubling calls are too many nodes of the lower side": ("lower", doubling(18), limit("nodes")),
 }
 
+
+def chains(*lines, policy="DROP"):
+    """The chains FORWARD, A, B and C with these rules."""
+    return wrapped(f":FORWARD {policy} [0:0]", *(f":{name} - [0:0]" for name in "ABC"), *(f"-A {line}" for line in lines))
+
+
+ALL_BUT_TEN = [f"-m iprange --src-range {ends} -j ACCEPT" for ends in ("0.0.0.0-9.255.255.255", "11.0.0.0-255.255.255.255")]
+LEFT_BY_GOTO = wrapped(":FORWARD ACCEPT [0:0]", ":A - [0:0]", ":B - [0:0]", "-A FORWARD -j A", "-A FORWARD -j DROP",
+                       "-A A -s 10.0.0.0/8 -g B", "-A A -j ACCEPT", "-A B -p tcp -j ACCEPT")
+LEFT_FILTER = forward("-s 10.0.0.0/8 -p tcp -j ACCEPT", *ALL_BUT_TEN, "-j DROP", policy="ACCEPT")
+DOUBTFUL_GOTO = wrapped(":FORWARD ACCEPT [0:0]", ":B - [0:0]", "-A FORWARD -m limit --limit 1/sec -g B", "-A FORWARD -j DROP", "-A B -p tcp -j DROP")
+GOTO_BEFORE_ACCEPT = chains("FORWARD -m limit --limit 1/sec -g B", "FORWARD -j ACCEPT", "B -p tcp -j DROP")
+GOTO_AT_THE_END = chains("FORWARD -j A", "FORWARD -p udp -j ACCEPT", "A -p tcp -j ACCEPT", "A -g B", "B -s 10.0.0.0/8 -j DROP")
+GOTO_BEHIND_GOTO = chains("FORWARD -j A", "FORWARD -j DROP", "A -p tcp -g B", "A -j ACCEPT", "B -s 10.0.0.0/8 -g C", "B -j RETURN",
+                          "C -d 192.168.0.0/16 -j ACCEPT", policy="ACCEPT")
+GOTO_IN_A_CALL = chains("FORWARD -j A", "FORWARD -j DROP", "A -m limit --limit 1/sec -g B", "A -s 10.0.0.0/8 -j DROP", "A -j ACCEPT",
+                        "B -p tcp -j ACCEPT", policy="ACCEPT")
+CALL_IN_A_GOTO = chains("FORWARD -g A", "FORWARD -j ACCEPT", "A -p tcp -j B", "A -p udp -j ACCEPT", "B -s 10.0.0.0/8 -j ACCEPT", "B -j RETURN")
+GOTO_LIMITED = chains("FORWARD -j A", "A -p tcp -g B", "B -m limit --limit 5/min -j ACCEPT", "B -m recent --rcheck -g C", "C -j ACCEPT")
+RETURN_BEHIND_GOTO = chains("FORWARD -j A", "FORWARD -j ACCEPT", "A -g B", "B -m limit --limit 1/sec -j RETURN", "B -j DROP")
+GOTO_BY_NAME = chains("FORWARD -i eth0 -g A", "FORWARD -j ACCEPT", "A -s 10.0.0.0/8 -j ACCEPT")
+
+CASES |= {
+    "a goto leaves what stands behind it": ("upper", LEFT_BY_GOTO, prints(LEFT_FILTER)),
+    "a goto leaves what stands behind it, in lower": ("lower", LEFT_BY_GOTO, prints(LEFT_FILTER)),
+    "a goto comes back to the rule behind the call": ("explain src=10.0.0.1 proto=17", LEFT_BY_GOTO, prints("accept never\ndrop under 0\n")),
+    "a call in its place goes on": (
+        "upper", LEFT_BY_GOTO.replace("-g", "-j"), prints(forward("-s 10.0.0.0/8 -p tcp -j ACCEPT", "-j ACCEPT", "-j DROP", policy="ACCEPT"))),
+    "a doubtful goto before a drop": ("upper", DOUBTFUL_GOTO, prints(forward("-p tcp -j DROP", policy="ACCEPT"))),
+    "a doubtful goto before a drop, in lower": ("lower", DOUBTFUL_GOTO, prints(forward("-j DROP", "-p tcp -j DROP", policy="ACCEPT"))),
+    "a doubtful goto explained": ("explain proto=17", DOUBTFUL_GOTO, prints("accept under 1\nFORWARD 1 literal 1\ndrop under 0\n")),
+    "a doubtful goto of what is dropped anyway": ("explain proto=6", DOUBTFUL_GOTO, prints("accept never\ndrop under 0\n")),
+    "a doubtful goto before an accept": ("upper", GOTO_BEFORE_ACCEPT, prints(forward("-j ACCEPT", "-p tcp -j ACCEPT"))),
+    "a doubtful goto before an accept, in lower": ("lower", GOTO_BEFORE_ACCEPT, prints(forward("-p tcp -j DROP"))),
+    "a goto at the end of a called chain": (
+        "upper", GOTO_AT_THE_END, prints(forward("-p tcp -j ACCEPT", "-s 10.0.0.0/8 -j DROP", "-p udp -j ACCEPT"))),
+    "behind it comes the calling chain": ("explain src=11.0.0.1 proto=17", GOTO_AT_THE_END, prints("accept under 0\ndrop never\n")),
+    "a goto in a chain that a goto leads to": (
+        "upper", GOTO_BEHIND_GOTO,
+        prints(forward("-s 10.0.0.0/8 -d 192.168.0.0/16 -p tcp -j ACCEPT", "! -p tcp -j ACCEPT", "-j DROP", policy="ACCEPT"))),
+    "a return behind two gotos": ("explain src=10.0.0.1 proto=6", GOTO_BEHIND_GOTO, prints("accept never\ndrop under 0\n")),
+    "a doubtful goto in a called chain": (
+        "upper", GOTO_IN_A_CALL, prints(forward(*ALL_BUT_TEN, "-p tcp -j ACCEPT", "-j DROP", policy="ACCEPT"))),
+    "a doubtful goto in a called chain explained": (
+        "explain src=10.0.0.1 proto=6", GOTO_IN_A_CALL, prints("accept under 1\nFORWARD 1 > A 1 literal 1\ndrop under 0\n")),
+    "a call in a chain that a goto leads to": (
+        "upper", CALL_IN_A_GOTO, prints(forward("-s 10.0.0.0/8 -p tcp -j ACCEPT", "-p udp -j ACCEPT"))),
+    "the end behind a goto of the asked chain is the policy": ("explain proto=1", CALL_IN_A_GOTO, prints("accept never\ndrop under 0\n")),
+    "a place behind a call and a goto": (
+        "explain proto=6", GOTO_LIMITED, prints("accept under 1\nFORWARD 1 > A 1 > B 2 literal 1\ndrop under 0\n")),
+    "a doubtful return in a chain that a goto leads to": (
+        "explain", RETURN_BEHIND_GOTO, prints("accept under 1\nFORWARD 1 > A 1 > B 1 literal 1\ndrop under 0\n")),
+    "a goto is an edge where names are hidden": ("matrix tcp:1:22", GOTO_BY_NAME, prints("classes 1\n0 0.0.0.0-255.255.255.255\nedges 1\n0 0\n")),
+    "in a lower matrix a goto leaves": (
+        "matrix tcp:1:22 --side lower", GOTO_BY_NAME,
+        prints("classes 2\n0 0.0.0.0-9.255.255.255,11.0.0.0-255.255.255.255\n1 10.0.0.0-10.255.255.255\nedges 2\n1 0\n1 1\n")),
+    "forged sources that a goto keeps back": (
+        "spoof eth0=10.0.0.0/8 eth1=10.0.0.0/8", GOTO_BY_NAME,
+        prints("eth0 holds\neth1 violated in=eth1 out= src=0.0.0.0 dst=0.0.0.0 proto=0 sport=0 dport=0 flags=NONE state=NEW\n")),
+    "a goto is checked": ("check", LEFT_BY_GOTO, prints("ok chains 3 rules 5 unknown 0\n")),
+    "a goto of no declared chain": ("check", wrapped(":FORWARD DROP [0:0]", "-A FORWARD -g LOST"), (7, "", "fffuu: line 3: undefined chain\n")),
+    "a goto of its own chain": (
+        "upper", wrapped(":FORWARD DROP [0:0]", ":A - [0:0]", "-A FORWARD -j A", "-A A -g A"), (10, "", "fffuu: call loop through A\n")),
+    "an unsupported target behind a goto": (
+        "lower", chains("FORWARD -g A", "A -j NFQUEUE --queue-num 1"), (9, "", "fffuu: line 7: unsupported target NFQUEUE\n")),
+}
 
 
 def generated(count):
@@ -180,6 +273,19 @@ def thousand_classes():
     return f"classes 4\n0 {','.join(rest)}\n1 {ranges(callers)}\n2 {ranges(port)}\n3 {ranges(accepted)}\n"
 
 
+def barred(count, accepted):
+    """Rules that drop from each of the first `count` addresses to itself, and then accept to the first `accepted`."""
+    drops = [f"-s 0.0.0.{i}/32 -d 0.0.0.{i}/32 -j DROP" for i in range(count)]
+    return forward(*drops, f"-m iprange --dst-range 0.0.0.0-0.0.0.{accepted - 1} -j ACCEPT")
+
+
+def barred_matrix(accepted):
+    """Its matrix: each accepted address is a class, and all others are one; every class reaches the accepted addresses, but none itself."""
+    classes = [f"{i} 0.0.0.{i}" for i in range(accepted)] + [f"{accepted} 0.0.0.{accepted}-255.255.255.255"]
+    edges = [f"{i} {j}" for i in range(accepted + 1) for j in range(accepted) if i != j]
+    return "".join(f"{line}\n" for line in [f"classes {len(classes)}", *classes, f"edges {len(edges)}", *edges])
+
+
 ONE_PAIR = forward("-s 10.0.0.0/8 -d 192.168.0.1/32 -j ACCEPT")
 LAST_DROPPED = forward("-s 255.255.255.255/32 -j DROP", policy="ACCEPT")
 BY_NAME = forward("-i eth0 -j ACCEPT")
@@ -187,6 +293,15 @@ GUARDED = ("-m conntrack --ctstate ESTABLISHED -j ACCEPT", "! -s 10.0.0.0/8 -i e
 HALF_GUARDED = ("-m conntrack --ctstate ESTABLISHED -j ACCEPT", "! -s 10.0.0.0/8 -i eth0 -p tcp -j DROP", "-j ACCEPT")
 FORGED = "eth0 violated in=eth0 out= src=0.0.0.0 dst=0.0.0.0 proto=0 sport=0 dport=0 flags=NONE state=NEW\n"
 ALL = "0 0.0.0.0-255.255.255.255\n"
+NO_EDGE = "classes 1\n" + ALL + "edges 0\n"
+ONE_EDGE = "classes 1\n" + ALL + "edges 1\n0 0\n"
+SSH_ALONE = forward("-p tcp -m tcp --dport 22 -j ACCEPT", "-p tcp -j DROP", policy="ACCEPT")
+NOT_BY_NAME = forward("! -o eth0 -j ACCEPT")
+OVERLAPPING = forward("-m iprange --src-range 10.0.0.10-10.0.0.19 --dst-range 10.0.0.15-10.0.0.24 -j ACCEPT")
+INNER = forward("-m iprange --src-range 10.0.0.20-10.0.0.29 --dst-range 10.0.0.20-10.0.0.29 -j DROP",
+                "-m iprange --src-range 10.0.0.10-10.0.0.39 -j ACCEPT")
+FIRST_PROTOCOLS = wrapped(":FORWARD ACCEPT [0:0]", ":C - [0:0]", "-A FORWARD -j C", *(f"-A C -p {i} -j RETURN" for i in range(6, 256)),
+                          "-A C -j DROP")
 PAIR_CLASSES = ("classes 3\n0 0.0.0.0-9.255.255.255,11.0.0.0-192.168.0.0,192.168.0.2-255.255.255.255\n1 10.0.0.0-10.255.255.255\n"
                 "2 192.168.0.1\n")
 FIVE_CLASSES = ("classes 4\n0 0.0.0.0-9.255.255.255,10.0.1.0-10.0.1.255,10.0.3.0-10.0.3.255,10.0.5.0-255.255.255.255\n"
@@ -194,13 +309,13 @@ FIVE_CLASSES = ("classes 4\n0 0.0.0.0-9.255.255.255,10.0.1.0-10.0.1.255,10.0.3.0
 FIVE_EDGES = "edges 5\n0 3\n1 2\n1 3\n2 3\n3 3\n"
 
 CASES |= {
-    "a matrix of one class without an edge": ("matrix tcp:10000:22", forward(), prints("classes 1\n" + ALL + "edges 0\n")),
-    "a matrix of one class with an edge": ("matrix tcp:10000:22", forward(policy="ACCEPT"), prints("classes 1\n" + ALL + "edges 1\n0 0\n")),
+    "a matrix of one class without an edge": ("matrix tcp:10000:22", forward(), prints(NO_EDGE)),
+    "a matrix of one class with an edge": ("matrix tcp:10000:22", forward(policy="ACCEPT"), prints(ONE_EDGE)),
     "a matrix with an edge one way": ("matrix tcp:10000:22", ONE_PAIR, prints(PAIR_CLASSES + "edges 1\n1 2\n")),
     "a matrix with the last address alone": (
         "matrix tcp:1:1", LAST_DROPPED, prints("classes 2\n0 0.0.0.0-255.255.255.254\n1 255.255.255.255\nedges 2\n0 0\n0 1\n")),
-    "names count as unknown in a matrix": ("matrix udp:1:53", BY_NAME, prints("classes 1\n" + ALL + "edges 1\n0 0\n")),
-    "names count as unknown in a lower matrix": ("matrix udp:1:53 --side lower", BY_NAME, prints("classes 1\n" + ALL + "edges 0\n")),
+    "names count as unknown in a matrix": ("matrix udp:1:53", BY_NAME, prints(ONE_EDGE)),
+    "names count as unknown in a lower matrix": ("matrix udp:1:53 --side lower", BY_NAME, prints(NO_EDGE)),
     "a matrix of five generated rules": ("matrix tcp:1:3", generated(5), prints(FIVE_CLASSES + FIVE_EDGES)),
     "a matrix of a thousand generated rules": ("matrix tcp:1:3", generated(1000), prints(thousand_classes() + FIVE_EDGES)),
     "a lower matrix of five generated rules": (
@@ -210,6 +325,21 @@ CASES |= {
         "matrix tcp:1:1 --family 6", forward("-s 2001:db8::/32 -d ::1/128 -j ACCEPT"),
         prints("classes 3\n0 ::,::2-2001:db7:ffff:ffff:ffff:ffff:ffff:ffff,2001:db9::-ffff:ffff:ffff:ffff:ffff:ffff:ffff:ffff\n1 ::1\n"
                "2 2001:db8::-2001:db8:ffff:ffff:ffff:ffff:ffff:ffff\nedges 1\n2 1\n")),
+    "the first rule that holds answers": ("matrix tcp:1:22", SSH_ALONE, prints(ONE_EDGE)),
+    "the next rule answers where the first one fails": ("matrix tcp:1:23", SSH_ALONE, prints(NO_EDGE)),
+    "the policy answers where every rule fails": ("matrix udp:1:22", SSH_ALONE, prints(ONE_EDGE)),
+    "a negated name counts as unknown in a matrix": ("matrix udp:1:53", NOT_BY_NAME, prints(ONE_EDGE)),
+    "a negated name counts as unknown in a lower matrix": ("matrix udp:1:53 --side lower", NOT_BY_NAME, prints(NO_EDGE)),
+    "a state stays known in a matrix": (
+        "matrix udp:1:53 --side lower", forward("-m conntrack --ctstate ESTABLISHED -j DROP", "-j ACCEPT"), prints(ONE_EDGE)),
+    "ranges that overlap make four classes": ("matrix tcp:1:1", OVERLAPPING, prints(
+        "classes 4\n0 0.0.0.0-10.0.0.9,10.0.0.25-255.255.255.255\n1 10.0.0.10-10.0.0.14\n2 10.0.0.15-10.0.0.19\n3 10.0.0.20-10.0.0.24\n"
+        "edges 4\n1 2\n1 3\n2 2\n2 3\n")),
+    "a class of two ranges": ("matrix tcp:1:1", INNER, prints(
+        "classes 3\n0 0.0.0.0-10.0.0.9,10.0.0.40-255.255.255.255\n1 10.0.0.10-10.0.0.19,10.0.0.30-10.0.0.39\n2 10.0.0.20-10.0.0.29\n"
+        "edges 5\n1 0\n1 1\n1 2\n2 0\n2 1\n")),
+    "a lower matrix with an edge one way": ("matrix tcp:10000:22 --side lower", ONE_PAIR, prints(PAIR_CLASSES + "edges 1\n1 2\n")),
+    "a hundred drops come before an accept": ("matrix tcp:10000:22", barred(100, 50), prints(barred_matrix(50))),
     "a matrix wants two ports": ("matrix tcp:1", forward(), (1, "", USAGE)),
     "forged sources are dropped": ("spoof eth0=10.0.0.0/8", forward(*GUARDED), prints("eth0 holds\n")),
     "forged sources of tcp alone are dropped": ("spoof eth0=10.0.0.0/8", forward(*HALF_GUARDED), prints(FORGED)),
@@ -220,6 +350,16 @@ CASES |= {
         "spoof eth0=255.255.255.255", forward("-s 0.0.0.0/1 -p tcp -j DROP", "-j ACCEPT"), prints(FORGED.replace("src=0.0.0.0", "src=128.0.0.0"))),
     "a claimed name is taken as it stands": ("spoof hex:61=1.1.1.1 eth+=1.1.1.1", forward(), prints("hex:6865783a3631 holds\neth+ holds\n")),
     "output names count as unknown": ("spoof eth0=10.0.0.0/8", forward("-o ppp0 -j ACCEPT"), prints(FORGED)),
+    "output names that exclude one another count as unknown": (
+        "spoof eth0=10.0.0.0/8", forward("-o eth1 -j DROP", "! -o eth1 -j DROP", "-j ACCEPT"), prints(FORGED)),
+    "a negated output name counts as unknown": ("spoof eth0=10.0.0.0/8", forward("! -o eth1 -j DROP", "-j ACCEPT"), prints(FORGED)),
+    "an accept of another interface passes no forged sources": ("spoof eth0=10.0.0.0/8", forward("-i eth1 -j ACCEPT"), prints("eth0 holds\n")),
+    "drops of tcp and of the rest leave no packet": (
+        "spoof eth0=10.0.0.0/8", forward("-p tcp -j DROP", "! -p tcp -j DROP", "-j ACCEPT", policy="ACCEPT"), prints("eth0 holds\n")),
+    "a drop of the first protocols leaves the next": ("spoof eth0=10.0.0.0/8", FIRST_PROTOCOLS, prints(FORGED.replace("proto=0", "proto=6"))),
+    "the policy accepts forged sources": (
+        "spoof eth0=0.0.0.0-192.0.2.0,192.0.3.0-255.255.255.255", forward(policy="ACCEPT"), prints(FORGED.replace("src=0.0.0.0", "src=192.0.2.1"))),
+    "the policy drops forged sources": ("spoof eth0=0.0.0.0-192.0.2.0,192.0.3.0-255.255.255.255", forward(), prints("eth0 holds\n")),
     "arguments may stand apart": (
         "spoof eth0=10.0.0.0/8 --family 4 lo=127.0.0.0/8,10.0.0.1,1.1.1.1-1.1.1.2", forward(), prints("eth0 holds\nlo holds\n")),
     "an interface without a name": ("spoof =10.0.0.0/8", forward(), (1, "", USAGE)),
@@ -229,7 +369,101 @@ CASES |= {
     "a load of an asked chain": ("load 5 --chain A", "", (1, "", USAGE)),
 }
 
+# how words are read
+ACCEPTED = prints("accept under 0\ndrop never\n")
+DROPPED = prints("accept never\ndrop under 0\n")
+NO_FIELDS = forward("-s 0.0.0.0/32 -d 0.0.0.0/32 -p tcp -m tcp --sport 0 --dport 0 --tcp-flags ALL NONE -m conntrack --ctstate NEW -j ACCEPT")
+NO_NAMES = forward(*(f"{option} {letter}+ -j DROP" for option in ("-i", "-o") for letter in "abcdefghijklmnopqrstuvwxyz0123456789"), "-j ACCEPT")
+SYN_ACK = forward("-p tcp -m tcp --tcp-flags ALL SYN,ACK -j ACCEPT")
+SYN_ACK_BY_NAME = forward('-i "a b" -p tcp -m tcp --tcp-flags SYN,ACK SYN,ACK -j ACCEPT')
+ALL_FIELDS = forward("-i eth0 -o a=b -s 10.0.0.1/32 -d 255.255.255.255/32 -p udplite -m multiport --sports 22 -m multiport --dports 65535"
+                     " -m conntrack --ctstate INVALID -j ACCEPT")
+FIELDS = "state=INVALID flags=SYN,ACK dport=65535 sport=22 proto=udplite dst=255.255.255.255 src=10.0.0.1 out=a=b in=eth0"
+DNS = forward("-p udp -m udp --sport 1 --dport 53 -j ACCEPT")
+THREE_PARTS = ("-i eth0 -s 10.0.0.0/8 -j ACCEPT", "-i eth0 -m iprange --src-range 1.1.1.1-1.1.1.2 -j ACCEPT", "-i eth0 -s 9.9.9.9/32 -j ACCEPT")
+ALL6 = "classes 1\n0 ::-ffff:ffff:ffff:ffff:ffff:ffff:ffff:ffff\n"
+FORGED6 = "x violated in=x out= src=2001:db9:: dst=:: proto=0 sport=0 dport=0 flags=NONE state=NEW\n"
+CASES |= {
+    "a missing field is 0, NONE or NEW": ("explain proto=tcp", NO_FIELDS, ACCEPTED),
+    "a missing protocol is 0": ("explain", returning(255), ACCEPTED),
+    "a given protocol is not": ("explain proto=255", returning(255), DROPPED),
+    "a missing name is empty": ("explain", NO_NAMES, ACCEPTED),
+    "an empty name is empty": ("explain in= out=hex:", NO_NAMES, ACCEPTED),
+    "fields in any order": ("explain " + FIELDS, ALL_FIELDS, ACCEPTED),
+    "flags have their names": ("explain proto=tcp flags=SYN,ACK", SYN_ACK, ACCEPTED),
+    "flags in any order": ("explain flags=ACK,SYN proto=tcp", SYN_ACK, ACCEPTED),
+    "one flag is not two": ("explain proto=tcp flags=SYN", SYN_ACK, DROPPED),
+    "an address of the family": ("explain --family 6 src=::1", forward("-s ::1/128 -j ACCEPT"), ACCEPTED),
+    "options behind the mode": ("check --chain A --family=6", wrapped(":FORWARD DROP [0:0]"), (8, "", "fffuu: no chain A\n")),
+    "options around the mode": ("--chain INPUT check --family=6", wrapped(":INPUT DROP [0:0]", "-A INPUT -s ::1 -j ACCEPT"), prints("ok chains 1 rules 1 unknown 0\n")),
+    "a matrix of a protocol's number, with its side first": ("--side lower matrix 17:1:53", DNS, prints(ONE_EDGE)),
+    "the ports of a matrix in their order": ("matrix 17:53:1", DNS, prints(NO_EDGE)),
+    "a matrix of the last protocol over IPv6": ("matrix 255:65535:0 --family 6", forward("-p 255 -j ACCEPT"), prints(ALL6 + "edges 1\n0 0\n")),
+    "a matrix of protocol 0": ("matrix 0:0:0", returning(255), prints(ONE_EDGE)),
+    "a matrix of another protocol": ("matrix 255:0:0", returning(255), prints(NO_EDGE)),
+    "a matrix without a side is that of upper": ("matrix tcp:1:2", LIMITED_TCP, prints(ONE_EDGE)),
+    "a matrix of the side upper": ("matrix tcp:1:2 --side upper", LIMITED_TCP, prints(ONE_EDGE)),
+    "a matrix of the side lower": ("matrix tcp:1:2 --side lower", LIMITED_TCP, prints(NO_EDGE)),
+    "a claim of three parts": ("spoof eth0=10.1.2.3/8,1.1.1.1-1.1.1.2,9.9.9.9", forward(*THREE_PARTS), prints("eth0 holds\n")),
+    "a claim of three parts has no other address": (
+        "spoof eth0=10.1.2.3/8,1.1.1.1-1.1.1.2,9.9.9.9", forward(*THREE_PARTS, "-i eth0 -s 1.1.1.3/32 -j ACCEPT"),
+        prints(FORGED.replace("src=0.0.0.0", "src=1.1.1.3"))),
+    "a claim lacks a part": ("spoof eth0=10.0.0.0/8,9.9.9.9", forward(*THREE_PARTS), prints(FORGED.replace("src=0.0.0.0", "src=1.1.1.1"))),
+    "a part twice": ("spoof a=9.9.9.9,1.1.1.1,9.9.9.9", forward("-s 1.1.1.1/32 -j ACCEPT", "-s 9.9.9.9/32 -j ACCEPT"), prints("a holds\n")),
+    "the last equals sign parts a claim": ("spoof a=b=1.1.1.1/32", forward("-i a=b -j ACCEPT"), prints(FORGED.replace("eth0", "hex:613d62"))),
+    "a claimed name that is an equals sign": ("spoof ==1.1.1.1-1.1.1.1", forward("-i = -j ACCEPT"), prints(FORGED.replace("eth0", "hex:3d"))),
+    "a claim of every address": ("spoof x=1.2.3.4/0", forward(policy="ACCEPT"), prints("x holds\n")),
+    "a claim over IPv6": ("spoof x=2001:db8::/32 --family 6", forward("-s 2001:db8::/32 -j ACCEPT"), prints("x holds\n")),
+    "a forged source over IPv6": ("spoof x=2001:db8::/32 --family 6", forward("-s 2001:db8::/31 -j ACCEPT"), prints(FORGED6)),
+    "claims are answered in their order": ("spoof a=1.1.1.1 --family 4 b=9.9.9.9 a=1.1.1.1", forward(), prints("a holds\nb holds\na holds\n")),
+    "the loads of one rule": ("load 1", "", prints("load 1\nupper rules 0 lines 0\nlower rules 0 lines 0\n")),
+}
+CASES |= {f"fields in any order, but {field}": (f"explain {' '.join(field if one.split('=')[0] == field.split('=')[0] else one for one in FIELDS.split())}",
+                                                  ALL_FIELDS, DROPPED)
+          for field in ("in=eth1", "out=a", "src=10.0.0.2", "dst=255.255.255.254", "proto=udp", "sport=23", "dport=65534", "state=NEW")}
+CASES |= {f"the name {name} by {field}": (f"explain {field}", forward(f"-i {name} -j ACCEPT"), ACCEPTED)
+          for field, name in (("in=hex", "hex"), ("in=Hex:0", "Hex:0"), ("in=hex:6A6b", "jk"), ("in=a=b", "a=b"))}
+CASES |= {f"the pattern {pattern} and the name {name}": (f"explain in={name}", forward(f"-i {pattern} -j ACCEPT"), answer)
+          for pattern, name, answer in (("+", "eth0", ACCEPTED), ("eth+", "eth", ACCEPTED), ("eth+", "eth0", ACCEPTED), ("eth+", "ppp0", DROPPED),
+                                        ("e+h", "e+h", ACCEPTED), ("e+h", "eh", DROPPED), ("e+h", "e+hx", DROPPED))}
+
+# how rules are read, and how they are printed
+ODD = ",".join(str(port) for port in range(1, 30, 2))
+EVEN = ",".join(str(port) for port in range(0, 30, 2))
+# sixteen ports; the second of their two lines comes back by itself as a line of one port, so it is no row of the table
+SIXTEEN = forward(f"-p udp -m multiport ! --sports {ODD} -m multiport ! --sports 31:65535 -j DROP", policy="ACCEPT")
+SIXTEEN_LINES = forward(f"-p udp -m multiport --sports {EVEN} -j DROP", "-p udp -m multiport --sports 30 -j DROP", policy="ACCEPT")
+SPELLED_CHAIN = wrapped(":FORWARD DROP [0:0]", ":hex:6a - [0:0]", "-A FORWARD -p esp -j DROP", "-A FORWARD -j hex:6a",
+                        *["-A hex:6a -p esp -j DROP"] * 9, "-A hex:6a -m limit --limit 1/sec -j ACCEPT")
+CASES |= {
+    "excluded names with a blank and of a pattern": (
+        "upper", calling('-i "my if" -j RETURN', "-i ppp+ -j RETURN", "-j ACCEPT"),
+        prints(wrapped(":FORWARD DROP [0:0]", ":C1 - [0:0]", "-A FORWARD -j C1", '-A C1 -i "my if" -j RETURN', "-A C1 -i ppp+ -j RETURN", "-A C1 -j ACCEPT"))),
+    "a place in a chain whose name is spelled": (
+        "explain", SPELLED_CHAIN, prints("accept under 1\nFORWARD 2 > hex:6865783a3661 10 literal 1\ndrop under 0\n")),
+    "a quote inside a word": ("upper", forward('-i e"th0 -j ACCEPT'), prints(forward('-i "e\\"th0" -j ACCEPT'))),
+    "a word ends behind its quotes": ("upper", forward('-i "eth0"-j ACCEPT'), prints(forward("-i eth0 -j ACCEPT"))),
+    "an exclamation mark as a name": ("upper", forward("-i ! -j ACCEPT"), prints(forward('-i "!" -j ACCEPT'))),
+    "every name and all but a pattern": ("upper", forward("-i + ! -o eth+ -j ACCEPT"), prints(forward("! -o eth+ -j ACCEPT"))),
+    "all destinations but a net": (
+        "upper", forward("-s 0.0.0.0/0 ! -d 10.1.2.3/16 -j ACCEPT"),
+        prints(forward("-m iprange --dst-range 0.0.0.0-10.0.255.255 -j ACCEPT", "-m iprange --dst-range 10.2.0.0-255.255.255.255 -j ACCEPT"))),
+    "a module of ports is its protocol": ("upper", forward("-m udp --sport 53 --syn -j ACCEPT"), prints(forward("-p udp -m udp --sport 53 -j ACCEPT"))),
+    "two literals of a module, one understood": (
+        "upper", forward("-m conntrack --ctstate NEW,RELATED --ctstate NEW,SNAT -j ACCEPT"), prints(forward("-m conntrack --ctstate NEW,RELATED -j ACCEPT"))),
+    "a range of sources beside one that descends": (
+        "upper", forward("-m iprange --src-range 1.0.0.1-1.0.0.9 --dst-range 2.0.0.9-2.0.0.1 -j ACCEPT"),
+        prints(forward("-m iprange --src-range 1.0.0.1-1.0.0.9 -j ACCEPT"))),
+    "flags of two options": ("upper", forward("-m tcp --tcp-flags ALL NONE --syn -j ACCEPT"), prints(forward())),
+    "ports that overlap": (
+        "upper", forward("-p 6 -m multiport --dports 22,20:22,80 -j ACCEPT"), prints(forward("-p tcp -m multiport --dports 20:22,80 -j ACCEPT"))),
+    "all ports but one": ("upper", forward("-m multiport ! --sports 1 -p udp -j ACCEPT"), prints(forward("-p udp -m multiport --sports 0,2:65535 -j ACCEPT"))),
+    "states twice and out of order": (
+        "upper", forward("-m state --state NEW,NEW,INVALID,UNTRACKED -j ACCEPT"), prints(forward("-m conntrack --ctstate INVALID,NEW,UNTRACKED -j ACCEPT"))),
+}
+
 # a home router, and its upper filter
+# a home router, and its two filters
 ROUTER = """# Generated by iptables-save
 *nat
 :PREROUTING ACCEPT [120:9000]
@@ -273,14 +507,31 @@ ROUTER_UPPER = """*filter
 -A FORWARD -j DROP
 COMMIT
 """
+# no limited ping need be accepted
+ROUTER_LOWER = ROUTER_UPPER.replace("-A FORWARD -i ppp0 -p icmp -j ACCEPT\n", "")
 EXPLAIN_TEXT = forward("-j ACCEPT")
 # what no packet of `explain` is
 BAD_FIELDS = ["src", "src=", "src=1.2.3", "src=10.0.0.0/8", "src=::1", "dst=1.2.3.256", "proto=", "proto=256", "proto=all", "proto=TCP",
+              "proto=01", "proto=00", "proto=+6", "flags=NONE,SYN", "flags=SYN,,ACK", "flags=,SYN", "state=SNAT",
               "sport=65536", "dport=http", "dport=-1", "dport=01", "flags=", "flags=SYN,", "flags=syn", "state=", "state=new", "state=NEW,RELATED",
-              "in=hex:6", "in=hex:6g", "out=hex:0", "mark=1", "=1", "SRC=1.1.1.1", "src=1.1.1.1 src=1.1.1.1", "in=a in=b", "flags=ACK flags=ACK"]
+              "in=hex:6", "in=hex:6g", "out=hex:0", "mark=1", "=1", "SRC=1.1.1.1", "src=1.1.1.1 src=1.1.1.1", "in=a in=b", "flags=ACK flags=ACK",
+              "ttl=1", "=1.2.3.4", "src=1.2.3.4/32", "dst=01.2.3.4", "proto=06", "sport=080", "dport=+5", "flags=SYN,ALL", "state=NEW,ESTABLISHED",
+              "out=hex:0g", "src=1.2.3.4 src=1.2.3.5"]
 GOOD_FIELDS = ["", "in=", "in=hex:", "in=hex:6A6b", "in=eth0=x", "out=a", "src=1.2.3.4 dst=255.255.255.255", "proto=tcp", "proto=0", "proto=255",
-               "sport=0 dport=65535", "flags=NONE", "flags=ALL", "flags=SYN,ACK", "flags=SYN,SYN", "state=INVALID", "state=UNTRACKED",
+               "sport=0 dport=65535", "flags=NONE", "flags=ALL", "flags=FIN", "flags=RST,PSH,URG", "flags=ACK,SYN,ACK", "flags=SYN,ACK",
+               "flags=SYN,SYN", "state=INVALID", "state=RELATED", "state=ESTABLISHED", "state=UNTRACKED",
                "in=a out=b src=1.1.1.1 dst=2.2.2.2 proto=6 sport=1 dport=2 flags=FIN state=NEW"]
+
+# what no request is
+BAD_WORDS = [
+    "upper -x", "explain --side upper", "explain --family 6 src=1.2.3.4", "explain --family 4 src=::1",
+    "matrix", "matrix tcp::1", "matrix :1:1", "matrix tcp:1:", "matrix tcp:1:1:1", "matrix 06:1:1", "matrix 256:1:1", "matrix all:1:1",
+    "matrix tcp:1:65536", "matrix tcp:1:01", "matrix tcp:1:1 tcp:1:1", "matrix tcp:1:1 --side up", "matrix tcp:1:1 --side=",
+    "spoof", "spoof eth0", "spoof eth0=", "spoof eth0=,", "spoof eth0=1.1.1.1,", "spoof eth0=,1.1.1.1", "spoof eth0=1.1.1.1,,1.1.1.2",
+    "spoof eth0=10.0.0.0/33", "spoof eth0=10.0.0.0/08", "spoof eth0=10.0.0.0/255.0.0.0", "spoof eth0=2.2.2.2-1.1.1.1",
+    "spoof eth0=1.1.1.1-1.1.1.2/32", "spoof eth0=::1", "spoof eth0=1.1.1.1 --family 6", "spoof eth0=1.1.1.1 --side upper", "spoof eth0=1.1.1.1 eth1",
+    "load", "load 0", "load 05", "load five", "load 5 5", "load 5 --family 4", "load 5 --side upper",
+]
 
 # at the limits: words, text, and a status with the last line on standard error, or the number of rule lines that are written
 ROUND = "-A FORWARD ! -s 10.0.0.0/8 -j ACCEPT"
@@ -290,10 +541,10 @@ def many(count, line, *more):
     return wrapped(":FORWARD DROP [0:0]", *[line] * count, *more)
 
 
-def chained(count):
-    """Chains that call one another in a row, FORWARD the first of `count`."""
+def chained(count, by="-j"):
+    """Chains that call one another in a row, or go to one another, FORWARD the first of `count`."""
     names = [f"N{i}" for i in range(1, count)]
-    calls = [f"-A {name} -j {after}" for name, after in zip(["FORWARD", *names], names)]
+    calls = [f"-A {name} {by} {after}" for name, after in zip(["FORWARD", *names], names)]
     return wrapped(":FORWARD DROP [0:0]", *(f":{name} - [0:0]" for name in names), *calls)
 
 
@@ -301,8 +552,14 @@ def sure_returns(count):
     return wrapped(":FORWARD DROP [0:0]", ":C - [0:0]", "-A FORWARD -j C", *["-A C -p esp -j RETURN"] * count, *["-A C -j ACCEPT"] * 2048)
 
 
-def visited(*more):
-    return wrapped(":FORWARD DROP [0:0]", ":C - [0:0]", *["-A FORWARD -j C"] * 4096, *["-A C -s 1.1.1.1/32 -j DROP"] * 4095, *more)
+def visited(*more, by="-j"):
+    return wrapped(":FORWARD DROP [0:0]", ":C - [0:0]", *[f"-A FORWARD {by} C"] * 4096, *["-A C -s 1.1.1.1/32 -j DROP"] * 4095, *more)
+
+
+def doubtful_goto(count):
+    """A doubtful goto before `count` accepts, which stand in the tree twice; its own items are six."""
+    return wrapped(":FORWARD DROP [0:0]", ":C - [0:0]", "-A FORWARD -m limit --limit 1/sec -g C", *["-A FORWARD -j ACCEPT"] * count,
+                   *["-A C -p tcp -j ACCEPT"] * 2)
 
 
 def address_returns(count):
@@ -320,9 +577,9 @@ def boxes(returns, *before):
 UNUSED = calling(*address_returns(127), *(f"-i e{i} -o x -j RETURN" for i in range(1, 65)), "-m tcp ! --dport 22 -j RETURN", "-j ACCEPT")
 
 
-def even_nets(count):
+def even_nets(count, *more):
     """Rules that accept from every second net of 256 addresses."""
-    return wrapped(":FORWARD DROP [0:0]", *(f"-A FORWARD -s 10.{i >> 7}.{i % 128 * 2}.0/24 -j ACCEPT" for i in range(count)))
+    return forward(*(f"-s 10.{i >> 7}.{i % 128 * 2}.0/24 -j ACCEPT" for i in range(count)), *more)
 
 
 def even_classes(count):
@@ -370,7 +627,13 @@ LIMITS = {
     "256 chains in a row": ("lower", chained(256), 0),
     "257 chains in a row": ("upper", chained(257), limit("depth")),
     "calls that double 17 times": ("upper", doubling(17), 65_536),
+    "gotos that double 16 times": ("upper", doubling(16, "-g"), 1),
+    "256 chains in a row of gotos": ("lower", chained(256, "-g"), 0),
+    "257 chains in a row of gotos": ("upper", chained(257, "-g"), limit("depth")),
+    "262,144 nodes of a doubtful goto": ("upper", doubtful_goto(131_069), 131_071),
+    "262,146 nodes of a doubtful goto": ("upper", doubtful_goto(131_070), limit("nodes")),
     "4,096 boundaries": ("matrix tcp:1:1", even_nets(2048), prints(even_classes(2048))),
+    "4,097 boundaries": ("matrix tcp:1:1", even_nets(2048, "-s 128.0.0.0/1 -j ACCEPT"), limit("atoms")),
     "4,098 boundaries": ("matrix tcp:1:1", even_nets(2049), limit("atoms")),
     "65,536 regions": ("spoof eth0=9.9.9.9", region_drops(), prints(FORGED)),
     "65,536 regions of tcp": ("spoof eth0=127.0.0.0/8", paired_drops(255), prints(
@@ -382,4 +645,6 @@ LIMITS = {
     "more regions for one of two claims": ("spoof eth0=0.0.0.0/0 eth1=9.9.9.9", region_drops(ONE_MORE), limit("regions")),
     "16,777,216 visits": ("explain src=2.2.2.2", visited(), prints("accept never\ndrop under 0\n")),
     "16,777,217 visits": ("explain src=2.2.2.2", visited("-A FORWARD -j ACCEPT"), limit("visits")),
+    "16,777,216 visits by gotos": ("explain src=2.2.2.2", visited(by="-g"), prints("accept never\ndrop under 0\n")),
+    "16,777,217 visits by gotos": ("explain src=2.2.2.2", visited("-A FORWARD -j ACCEPT", by="-g"), limit("visits")),
 }

@@ -104,6 +104,17 @@ def broken_inputs():
     check("a load reads no closed standard input", run(["load", "1"], stdin=subprocess.DEVNULL, preexec_fn=closed(0))[::2], (0, b""))
 
 
+def unread_inputs():
+    """Words that spell no request, and a load, leave standard input where it stands."""
+    held = os.memfd_create("unread")
+    os.write(held, TEXT)
+    for words, status in [([], 1), (["upper", "upper"], 1), (["upper", "--family", "5"], 1), (["load", "5"], 0)]:
+        os.lseek(held, 0, os.SEEK_SET)
+        got = run(words, stdin=held)[0]
+        check(f"what the words {words} read", (got, os.lseek(held, 0, os.SEEK_CUR)), (status, 0))
+    os.close(held)
+
+
 def nobody_reads():
     """The writing end of a pipe that nobody reads."""
     reading, writing = os.pipe()
@@ -136,6 +147,8 @@ def broken_errors():
         os.close(writing)
     with open("/dev/full", "wb") as full:
         check("both on a full device", run(["upper"], TEXT, stdout=full, stderr=full)[0], 3)
+        done = run(["upper"], stdin=os.open("/", os.O_RDONLY), stderr=full)
+        check("a folder as standard input, standard error on a full device", done[:2], (2, b""))
 
 
 def short_room(size):
@@ -203,7 +216,7 @@ if __name__ == "__main__":
     if len(sys.argv) != 2:
         sys.exit(__doc__)
     PROGRAM = os.path.abspath(sys.argv[1])
-    for part in (cut_texts, pieces, endless, broken_inputs, broken_outputs, broken_errors, rooms, terminal, places):
+    for part in (cut_texts, pieces, endless, broken_inputs, unread_inputs, broken_outputs, broken_errors, rooms, terminal, places):
         part()
     print(f"{passed} passed, {failed} failed")
     sys.exit(1 if failed else 0)

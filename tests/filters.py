@@ -78,19 +78,38 @@ def exclusions(rng, name):
 
 
 def text(rng, family):
-    """A dump. The rules of FORWARD and of the chains A to D stand in any order, those of E and F in theirs."""
+    """A dump. The rules of FORWARD and of the chains A to D stand in any order, those of E and F in theirs. Of what leads to another
+    chain a fifth or so is a goto, and in some dumps most of it."""
     users = ["A", "B", "C", "D"][:rng.randrange(5)]
     returning = ["E", "F"][:rng.randrange(3)]
     lines = ["*filter", f":FORWARD {rng.choice(['ACCEPT', 'DROP'])} [0:0]", ":INPUT ACCEPT [1:2]"]
     lines += [f":{name} - [0:0]" for name in [*users, *returning]]
-    rules = [" ".join(["-A FORWARD", *matches(rng, family)[:1], "-j", name]) for name in returning]
+    gotos = rng.choice([0, 0.2, 0.2, 0.2, 0.6])
+
+    def leads_by():
+        return "-g" if rng.random() < gotos else "-j"
+
+    rules = [" ".join(["-A FORWARD", *matches(rng, family)[:1], leads_by(), name]) for name in returning]
     for at, name in enumerate(["FORWARD", *users]):
         for _ in range(rng.randrange(5 if at else 6)):
             target = rng.choice(["ACCEPT", "DROP", "RETURN", "REJECT", "LOG"] + 3 * users[at:])
-            rules.append(" ".join(["-A", name, *matches(rng, family), "-j", target]))
+            rules.append(" ".join(["-A", name, *matches(rng, family), leads_by() if target in users else "-j", target]))
     rng.shuffle(rules)
     rules += [line for name in returning for line in exclusions(rng, name)]
     return "\n".join([*lines, *rules, "COMMIT", ""])
+
+
+def winding(rng):
+    """A dump of few tests and many calls, gotos and returns, so that the way from chain to chain decides."""
+    users = ["A", "B", "C", "D"][:rng.randrange(1, 5)]
+    lines = ["*filter", f":FORWARD {rng.choice(['ACCEPT', 'DROP'])} [0:0]", *(f":{name} - [0:0]" for name in users)]
+    for at, name in enumerate(["FORWARD", *users]):
+        for _ in range(rng.randrange(1, 5)):
+            match = rng.choice(["", "", "-m limit --limit 5/sec ", "-m limit --limit 5/sec ", "-p tcp ", "! -p tcp "])
+            verdict = rng.choice(["-j ACCEPT", "-j DROP", "-j RETURN"])
+            leads = [f"{option} {callee}" for option in ("-j", "-g") for callee in users[at:]]
+            lines.append(f"-A {name} {match}{rng.choice(leads) if leads and rng.random() < 0.55 else verdict}")
+    return "\n".join([*lines, "COMMIT", ""])
 
 
 def packet(rng, family):
@@ -126,7 +145,7 @@ def asked(program, words, family, given):
 
 def disagreements(program, rng, family):
     """What is wrong with the answers for one random dump."""
-    given = text(rng, family)
+    given = text(rng, family) if rng.random() < 0.6 else winding(rng)
     chains = walker.dump(given)
     packets = [packet(rng, family) for _ in range(40)]
     for mode, wanted in (("upper", lambda found: "accept" in found), ("lower", lambda found: found == {"accept"})):

@@ -215,6 +215,7 @@ def base_known(negated, option, arguments, family):
 
 
 def target(words, names):
+    """What a rule does. `-g` with a name that is no declared user chain is `lost`."""
     if not words:
         return ("pass",)
     if len(words) < 2:
@@ -223,7 +224,7 @@ def target(words, names):
     if words[0][0] == b"-g":
         if after:
             raise Malformed
-        return ("other", b"-g")
+        return ("goto", name) if name in names and name not in BUILT_IN else ("lost",)
     if name in (b"ACCEPT", b"DROP", b"RETURN") and not after:
         return ({b"ACCEPT": "accept", b"DROP": "drop", b"RETURN": "back"}[name],)
     if name == b"REJECT" and (not after or (len(after) == 2 and after[0] == (b"--reject-with", False))):
@@ -284,7 +285,7 @@ def read(text, family):
             chain, literals, action = rule(words, chains, family)
             if chain in chains:
                 chains[chain][1].append((at, literals, action))
-            elif undefined is None:
+            if undefined is None and (chain not in chains or action == ("lost",)):
                 undefined = at
         except Malformed:
             return ("malformed", at)
@@ -315,7 +316,8 @@ def check(text, asked=b"FORWARD", family=4):
     chains = result[1]
     if asked not in chains or chains[asked][0] == b"-":
         return 8, f"fffuu: no chain {shown(asked)}\n"
-    calls = {name: [action[1] for _, _, action in rules if action[0] == "call"] for name, (_, rules) in chains.items()}
+    # from here on a goto is a call
+    calls = {name: [action[1] for _, _, action in rules if action[0] in ("call", "goto")] for name, (_, rules) in chains.items()}
     reached, todo = {asked}, [asked]
     while todo:
         for name in calls[todo.pop()]:

@@ -25,9 +25,10 @@ MATCHES = ["-i eth0", "-i eth+", '-o "a b"', "! -o lo", "-i +", '-i ""', "-p tcp
            "-m tcp -p tcp", "foo", '-m "tcp" --dport "22"', '-i a"b', '"-s" 1.1.1.1', "-s", "-x"]
 TARGETS = ["-j ACCEPT", "-j DROP", "-j REJECT", "-j REJECT --reject-with tcp-reset", "-j REJECT --reject-with", "-j RETURN",
            '-j LOG --log-prefix "x y"', "-j SET", "-j A", "-j B", "-j C", "-j A x", '-j "a b"', "-j INPUT", "-j NFQUEUE", "-j ACCEPT x",
-           "-g A", "-g A x", "-g", "", "-j", "-j MARK --set-mark 1"]
+           "-g A", '-g "B"', "-g A x", "-g", "-g LOST", "-g LOST x", "-g INPUT", "-g ACCEPT", "-g A -g B", "! -g A", '"-g" A', "", "-j",
+           "-j MARK --set-mark 1"]
 PLAIN = ["", "-p tcp", "-i eth0", "-m limit --limit 1/s", "-m socket"]
-PLAIN_TARGETS = ["-j ACCEPT", "-j DROP", "-j A", "-j B", "-j C", "-j RETURN", "-j NFQUEUE", "-j LOG"]
+PLAIN_TARGETS = ["-j ACCEPT", "-j DROP", "-j A", "-j B", "-j C", "-j RETURN", "-j NFQUEUE", "-j LOG", "-g A", "-g B", "-g C"]
 
 
 def net_match(rng, family):
@@ -66,7 +67,8 @@ def text(rng, family):
     is_plain = rng.random() < 0.7
     for _ in range(rng.randrange(6)):
         if is_plain:
-            lines.append(f"-A {rng.choice(['FORWARD', 'A', 'B', 'C'])} {rng.choice(PLAIN)} {rng.choice(PLAIN_TARGETS)}")
+            goes = rng.choice(PLAIN_TARGETS) if rng.random() < 0.97 else rng.choice(["-g LOST", "-g FORWARD", "-g DROP"])
+            lines.append(f"-A {rng.choice(['FORWARD', 'A', 'B', 'C'])} {rng.choice(PLAIN)} {goes}")
         else:
             lines.append(rule_line(rng, family))
     lines.append(rng.choice(["COMMIT"] * 12 + ["", "COMMIT x", " COMMIT "]))

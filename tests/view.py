@@ -86,6 +86,9 @@ def whys():
          "without proto= the packet is one of protocol 0")
     status, out, _ = view("why", sample("limits.rules"), "--chain", "FORWARD", "src=10.0.0.1", "proto=udp")
     says("why with an option in between", out, "line 9: -A L -m limit --limit 5/min -j ACCEPT", "called by line 8: -A FORWARD -j L")
+    out = view("why", sample("firewalld-host.rules"), "in=eth0", "out=eth1", "dst=10.20.0.80", "proto=tcp", "dport=443")[1]
+    says("why over a goto", out, "where this holds: -m mark --mark 0x64", "called by line 84: -A FWDI_public -j FWDI_public_allow",
+         "by the goto of line 66: -A FORWARD_IN_ZONES -i eth0 -g FWDI_public", "called by line 59: -A FORWARD -j FORWARD_IN_ZONES")
     says("why of IPv6", view("why", sample("router6.rules"), "proto=ipv6-icmp")[1], "IPv6", "-m icmp6 --icmpv6-type", "called by line 17")
     status, _, err = view("why", sample("router.rules"), "dport=22")
     check("a port without a protocol", status, 1)
@@ -189,7 +192,13 @@ REFUSALS = [
     ("an undeclared chain", table("-A LOST -j ACCEPT"), 7, ["line 3", "isn't declared", "-A LOST -j ACCEPT"]),
     ("no such chain", b"*filter\n:INPUT DROP [0:0]\n:X - [0:0]\nCOMMIT\n", 8, ["no chain FORWARD", "there are INPUT"]),
     ("a call loop", table(":A - [0:0]", ":B - [0:0]", "-A FORWARD -j A", "-A A -j B", "-A B -j A"), 10,
-     ["A calls itself", "line 6: -A A -j B", "line 7: -A B -j A"]),
+     ["A leads to itself", "line 6: -A A -j B", "line 7: -A B -j A"]),
+    ("a goto to no declared chain", table("-A FORWARD -g LOST"), 7, ["line 3", "the chain LOST behind `-g` isn't declared", "-A FORWARD -g LOST"]),
+    ("a goto to a target", table("-A FORWARD -g DROP"), 7, ["line 3", "DROP is none", "-A FORWARD -g DROP"]),
+    ("words behind a goto", table(":A - [0:0]", "-A FORWARD -g A -m comment --comment x"), 5, ["line 4", "words stand behind the target"]),
+    ("a loop through a goto", table(":A - [0:0]", "-A FORWARD -j A", "-A A -p tcp -g A"), 10, ["A leads to itself", "line 5: -A A -p tcp -g A"]),
+    ("a target behind a goto", table(":A - [0:0]", "-A FORWARD -p tcp -g A", "-A A -j NFQUEUE --queue-num 1"), 9,
+     ["line 5", "the target NFQUEUE isn't supported", "line 4: -A FORWARD -p tcp -g A"]),
     ("a target", table(":A - [0:0]", ":B - [0:0]", "-A FORWARD -j A", "-A A -s 10.0.0.1/32 -j B", "-A B -j NFQUEUE --queue-num 1"), 9,
      ["line 7", "the target NFQUEUE isn't supported", "line 5: -A FORWARD -j A", "line 6: -A A -s 10.0.0.1/32 -j B"]),
 ]
@@ -204,7 +213,7 @@ def refusals():
     says("an IPv6 address under family 4", err, "an IPv6 address under family 4", "--family 6", "line 3")
     status, _, err = view("why", "-", "--family", "6", given=table("-A FORWARD -s 10.0.0.0/8 -j ACCEPT"))
     says("an IPv4 address under family 6", err, "an IPv4 address under family 6", "--family 4")
-    says("a chain of the dump's own", view("why", sample("router.rules"), "--chain", "LAN")[2], "LAN is a chain that others call", "INPUT, FORWARD, OUTPUT")
+    says("a chain of the dump's own", view("why", sample("router.rules"), "--chain", "LAN")[2], "LAN is a chain to which others lead", "INPUT, FORWARD, OUTPUT")
     says("a chain in small letters", view("why", sample("router.rules"), "--chain", "input")[2], "did you mean INPUT?")
     status, _, err = view("why", "nowhere.v4")
     check("no such file", (status, err), (2, "fffuu-view: nowhere.v4: can't be read: No such file or directory\n"))
@@ -212,7 +221,7 @@ def refusals():
     deep = table(*(f":N{at} - [0:0]" for at in range(1, 25)), "-A FORWARD -j N1", *calls, "-A N24 -j ACCEPT")
     status, _, err = view("why", "-", given=deep)
     check("a limit", status, 11)
-    says("a limit", err, "limit visits", "16,777,216", "2 calls")
+    says("a limit", err, "limit visits", "16,777,216", "from 2 rules, to 2")
     says("a word of policy is a save's", view("why", "-", given=table("-A FORWARD -m policy --dir in --pol ipsec --proto esp -j ACCEPT"))[1], "-m policy --proto esp")
 
 

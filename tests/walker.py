@@ -139,8 +139,8 @@ def literals_of(words, hidden=()):
 
 
 def dump(text, hidden=()):
-    """The chains of the table `filter`, by name: the policy and the rules, each its line, its literals and its target. The base
-    options of `hidden` count as unknown."""
+    """The chains of the table `filter`, by name: the policy and the rules, each its line, its literals, and its target with whether
+    that stands behind `-g`. The base options of `hidden` count as unknown."""
     chains, inside = {}, False
     for number, line in enumerate(text.splitlines(), 1):
         inside = line == "*filter" or (inside and line != "COMMIT")
@@ -150,19 +150,24 @@ def dump(text, hidden=()):
         if line.startswith(":"):
             chains[words[0][0][1:]] = (words[1][0], [])
             continue
-        texts = [word for word, _ in words]
-        at = texts.index("-j") if "-j" in texts else len(texts)
-        target = texts[at + 1] if at < len(texts) else None
-        chains[texts[1]][1].append((number, literals_of(words[2:at], hidden), target))
+        at = next((at for at, word in enumerate(words) if word in (("-j", False), ("-g", False))), len(words))
+        target = (words[at][0], words[at + 1][0]) if at < len(words) else None
+        chains[words[1][0]][1].append((number, literals_of(words[2:at], hidden), target))
     return chains
 
 
 def action(target):
-    if target is None or target in PASSING:
+    """What a target does, and the chain that it leads to."""
+    if target is None:
         return "pass", None
-    if target in ("ACCEPT", "DROP", "REJECT", "RETURN"):
-        return {"ACCEPT": "accept", "DROP": "drop", "REJECT": "drop", "RETURN": "back"}[target], None
-    return "call", target
+    option, name = target
+    if option == "-g":
+        return "goto", name
+    if name in PASSING:
+        return "pass", None
+    if name in ("ACCEPT", "DROP", "REJECT", "RETURN"):
+        return {"ACCEPT": "accept", "DROP": "drop", "REJECT": "drop", "RETURN": "back"}[name], None
+    return "call", name
 
 
 def known_holds(literals, packet):
@@ -174,7 +179,8 @@ def is_doubtful(literals):
 
 
 def outcomes(chains, name, at, packet):
-    """What a walk from this rule of the chain on can come to: some of accept, drop and end."""
+    """What a walk from this rule of the chain on can come to: some of accept, drop and end. The end of a chain that a goto leads to
+    is the end of this one."""
     rules = chains[name][1]
     if at == len(rules):
         return {"end"}
@@ -182,17 +188,11 @@ def outcomes(chains, name, at, packet):
     if not known_holds(literals, packet):
         return outcomes(chains, name, at + 1, packet)
     kind, callee = action(target)
-    if kind == "pass":
-        found = outcomes(chains, name, at + 1, packet)
-    elif kind == "back":
-        found = {"end"}
-    elif kind == "call":
-        found = outcomes(chains, callee, 0, packet)
-        if "end" in found:
-            found = (found - {"end"}) | outcomes(chains, name, at + 1, packet)
-    else:
-        found = {kind}
-    return found | outcomes(chains, name, at + 1, packet) if is_doubtful(literals) else found
+    found = outcomes(chains, callee, 0, packet) if callee else {"end" if kind in ("pass", "back") else kind}
+    goes_on = kind in ("pass", "call") and "end" in found
+    if goes_on:
+        found = found - {"end"}
+    return found | outcomes(chains, name, at + 1, packet) if goes_on or is_doubtful(literals) else found
 
 
 def verdicts(chains, asked, packet):
@@ -206,43 +206,42 @@ def explained(chains, asked, packet, wanted):
     policy = "accept" if chains[asked][0] == "ACCEPT" else "drop"
 
     def can(stack):
-        """Whether some truth leads from here to the verdict. A stack has the chains that are open, each with its next rule."""
-        for depth in range(len(stack) - 1, -1, -1):
-            found = outcomes(chains, *stack[depth], packet)
+        """Whether some truth leads from here to the verdict. A stack has the chains to which a walk goes back, and the one that it is
+        in, each with its next rule and the steps that led there."""
+        for name, at, _ in reversed(stack):
+            found = outcomes(chains, name, at, packet)
             if wanted in found:
                 return True
             if "end" not in found:
                 return False
         return policy == wanted
 
-    stack, places = [(asked, 0)], []
+    stack, places = [(asked, 0, ())], []
     if not can(stack):
         return [f"{wanted} never"]
-    while True:
-        name, at = stack[-1]
+    while stack:
+        name, at, steps = stack.pop()
         rules = chains[name][1]
         if at == len(rules):
-            stack.pop()
-            if not stack:
-                break
             continue
         _, literals, target = rules[at]
-        path = [(chain, next_rule - 1) for chain, next_rule in stack[:-1]] + [(name, at)]
-        stack[-1] = (name, at + 1)
+        here = (*steps, f"{name} {at + 1}")
+        behind = [*stack, (name, at + 1, steps)]
+        kind, callee = action(target)
         if not known_holds(literals, packet):
+            stack = behind
             continue
         if is_doubtful(literals):
-            if can(stack):
+            if can(behind):
+                stack = behind
                 continue
-            steps = " > ".join(f"{chain} {number + 1}" for chain, number in path)
-            places += [f"{steps} literal {index}" for index, (_, test) in enumerate(literals, 1) if test is None]
-        kind, callee = action(target)
-        if kind == "call":
-            stack.append((callee, 0))
-        elif kind == "back":
-            stack.pop()
-            if not stack:
-                break
-        elif kind != "pass":
+            places += [f"{' > '.join(here)} literal {index}" for index, (_, test) in enumerate(literals, 1) if test is None]
+        if kind == "goto":
+            stack.append((callee, 0, here))
+        elif kind == "call":
+            stack = [*behind, (callee, 0, here)]
+        elif kind == "pass":
+            stack = behind
+        elif kind != "back":
             break
     return [f"{wanted} under {len(places)}", *places]

@@ -82,24 +82,33 @@ def matches(rng, family, kind):
     return found
 
 
-def target(rng, family, chains):
-    words = ["ACCEPT"] * 4 + ["DROP"] * 3 + [f"REJECT --reject-with {REFUSALS[family]}"] + ["RETURN"] * 2 + ["NFLOG --nflog-group 7", "CONNMARK --save-mark", "MARK --set-xmark 0x1/0xffffffff", ""] + chains * 2
+def target(rng, family, chains, share=2):
+    words = ["ACCEPT"] * 4 + ["DROP"] * 3 + [f"REJECT --reject-with {REFUSALS[family]}"] + ["RETURN"] * 2 + ["NFLOG --nflog-group 7", "CONNMARK --save-mark", "MARK --set-xmark 0x1/0xffffffff", ""] + chains * share
     return rng.choice(words)
 
 
+def ending(rng, goes, users, gotos):
+    """What a rule with this target ends with: to a chain of the table it leads by a goto in this share of the cases, else by a call."""
+    if not goes:
+        return []
+    return [f"{'-g' if goes in users and rng.random() < gotos else '-j'} {goes}"]
+
+
 def text(rng, family, kind):
-    """A filter table as iptables-restore takes it. Chains call only later ones."""
-    users = ["A", "B", "C"][:rng.randrange(4)]
+    """A filter table as iptables-restore takes it. Chains call only later ones, or go to them. In a third of the tables many packets come
+    to calls and gotos."""
+    winding = rng.random() < 1 / 3
+    users = ["A", "B", "C"] if winding else ["A", "B", "C"][:rng.randrange(4)]
     lines = ["*filter", ":INPUT ACCEPT [0:0]", f":FORWARD {rng.choice(['ACCEPT', 'DROP'])} [0:0]", ":OUTPUT ACCEPT [0:0]"]
     lines += [f":{name} - [0:0]" for name in users]
     for at, name in enumerate(["FORWARD", *users]):
         for _ in range(rng.randrange(2, 8)):
-            goes = target(rng, family, users[at:])
+            goes = target(rng, family, users[at:], 6 if winding else 2)
             tests = matches(rng, family, kind)
-            # calls and returns to which many packets come
-            if goes in ("RETURN", *users) and rng.random() < 0.6:
+            # calls, gotos and returns to which many packets come
+            if winding or goes in ("RETURN", *users) and rng.random() < 0.6:
                 tests = tests[:1]
-            lines.append(" ".join([f"-A {name}", *tests, *([f"-j {goes}"] if goes else [])]))
+            lines.append(" ".join([f"-A {name}", *tests, *ending(rng, goes, users, 0.5)]))
     if rng.random() < 0.6:
         # what comes to the end is decided otherwise than by the policy, so that a chain that is left too early shows
         lines.append(f"-A FORWARD -j {'DROP' if 'FORWARD ACCEPT' in lines[2] else 'ACCEPT'}")
@@ -108,7 +117,7 @@ def text(rng, family, kind):
 
 def doubtful_text(rng, family, kind):
     """A filter table as iptables-restore takes it, and how many doubtful rules it has. Each of them asks for a bit of its own of the
-    packet's mark, and no chain is called twice, so that a mark is one truth of the unknown matches."""
+    packet's mark, and to no chain lead two rules, so that a mark is one truth of the unknown matches."""
     users = ["A", "B"][:rng.randrange(3)]
     rules = [[name, matches(rng, family, kind), target(rng, family, [])] for name in ["FORWARD", *users] for _ in range(rng.randrange(2, 6))]
     rules = [[name, tests, "" if goes.startswith("MARK") else goes] for name, tests, goes in rules]
@@ -121,7 +130,7 @@ def doubtful_text(rng, family, kind):
         rules[at][1] = rules[at][1] if rng.random() < 0.3 else []
         rules[at][1].append(f"-m mark {maybe_not(rng)}--mark {1 << bit:#x}/{1 << bit:#x}")
     lines = ["*filter", ":INPUT ACCEPT [0:0]", f":FORWARD {rng.choice(['ACCEPT', 'DROP'])} [0:0]", ":OUTPUT ACCEPT [0:0]", *[f":{name} - [0:0]" for name in users]]
-    lines += [" ".join([f"-A {name}", *tests, *([f"-j {goes}"] if goes else [])]) for name, tests, goes in rules]
+    lines += [" ".join([f"-A {name}", *tests, *ending(rng, goes, users, 0.5)]) for name, tests, goes in rules]
     return "\n".join([*lines, "COMMIT", ""]), len(doubtful)
 
 

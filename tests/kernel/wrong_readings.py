@@ -74,10 +74,15 @@ LINE_ALONE = (
 LENGTH = ("crates/addr_text/src/nets.rt", "return Some(Some(len));", "return Some(Some(W - len));")
 RETURN = ("crates/closure/src/rows.rt", "(ActionKind::GoBack, false, _) => Row::Leave(0)", "(ActionKind::GoBack, false, _) => Row::Leave(1)")
 
+GOTO = ("crates/closure/src/parts.rt", "ActionKind::GoTo(*target)", "ActionKind::CallTo(*target)")
+DOUBTFUL_GOTO = ("crates/closure/src/rows.rt", "Row::RunLater(target)", "Row::Run(target, Mode::Soft(0))")
+
 READINGS = [
     Reading("a length of a network counted from the other end", (LENGTH,), True),
     Reading("a flag test without its protocol", (TEST_ALONE, *LINE_ALONE), True),
     Reading("a RETURN of a called chain that ends the calling one too", (RETURN,), True),
+    Reading("a goto that comes back as a call does", (GOTO,), True),
+    Reading("a doubtful goto that comes back as a call does", (DOUBTFUL_GOTO,), True),
     # the tools take a test of flags behind `-p tcp` alone, and that one is read as it was
     Reading("a flag test without its protocol on a line that has it", (TEST_ALONE,), False),
 ]

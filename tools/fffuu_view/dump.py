@@ -70,6 +70,10 @@ class Rule:
         """What `-p` says without `!`, or nothing."""
         return next((match.arguments[0].text for match in self.matches if match.option == "-p" and not match.negated), "")
 
+    def leads(self) -> str:
+        """By what it leads to another chain, in words for the line behind them."""
+        return "by the goto of" if self.jump == "-g" else "called by"
+
     def decides(self) -> bool:
         """Whether its target does more than to go on."""
         return bool(self.target) and self.target not in GOES_ON
@@ -115,7 +119,7 @@ class Dump:
         return sorted(rules, key=lambda rule: rule.line)
 
     def way_to(self, chain: str, wanted: str) -> List[Rule]:
-        """The calls that lead from one chain to another, the first one first."""
+        """The rules with calls and gotos that lead from one chain to another, the first one first."""
         found, way = self.reach(chain), []
         at = wanted
         while found.get(at) is not None:

@@ -2,7 +2,7 @@
 import re
 from typing import List, Optional
 
-from .dump import BUILT_IN, Dump, Rule
+from .dump import BUILT_IN, GOES_ON, Dump, Rule
 from .program import Answer
 from .trouble import Trouble
 
@@ -12,19 +12,20 @@ LONG_WORDS = {"--jump": "-j", "--goto": "-g", "--in-interface": "-i", "--out-int
               "--destination": "-d", "--dst": "-d", "--protocol": "-p", "--proto": "-p", "--match": "-m", "--fragments": "-f",
               "--append": "-A", "--destination-port": "--dport", "--source-port": "--sport", "--destination-ports": "--dports",
               "--source-ports": "--sports"}
+TARGETS = ("ACCEPT", "DROP", "REJECT", "RETURN", *GOES_ON)
 COMMANDS = {"-N": "a command that makes a chain", "-P": "a command that sets a policy", "-I": "a command that inserts a rule",
             "-X": "a command", "-F": "a command", "-D": "a command that takes a rule out", "-R": "a command"}
 LIMITS = {
-    "depth": "some path of calls has more than 256 chains",
-    "nodes": "there are more than 262,144 rules and matches once calls are unfolded: chains that are called often, under matches "
-             "that aren't understood, make it large",
-    "literals": "there are more than 4,194,304 tests once calls are unfolded: rules behind many returns make it large",
-    "boxes": "one rule comes to more than 16,384 sets of packets: many returns or negated matches before it make it large",
+    "depth": "some path of calls and gotos has more than 256 chains",
+    "nodes": "there are more than 262,144 rules and matches once calls and gotos are unfolded: chains to which many rules lead, under "
+             "matches that aren't understood, make it large",
+    "literals": "there are more than 4,194,304 tests once calls and gotos are unfolded: rules behind many returns and gotos make it large",
+    "boxes": "one rule comes to more than 16,384 sets of packets: many returns, gotos or negated matches before it make it large",
     "rules": "there are more than 131,072 simple rules",
     "lines": "the filter has more than 262,144 lines: lists of ports and ranges of addresses in one rule multiply",
     "atoms": "the addresses in the rules part all addresses at more than 4,096 places",
     "regions": "the forged packets fall into more than 65,536 pieces",
-    "visits": "there are more than 16,777,216 rules over all paths of calls",
+    "visits": "there are more than 16,777,216 rules over all paths of calls and gotos",
 }
 
 
@@ -140,8 +141,8 @@ def malformed_cause(text: str, family: int) -> str:
         return "`!` stands behind its option, as old versions wrote it: load the rules and save them anew"
     if words and words[0] in COMMANDS:
         return f"{COMMANDS[words[0]]}, no line of a save. {SAVE}"
-    if re.search(r" -j (ACCEPT|DROP|RETURN) \S", text) or re.search(r" -j \S+ .*-m ", text):
-        return "words stand behind the target: a save writes all matches before `-j`"
+    if re.search(r" -j (ACCEPT|DROP|RETURN) \S| -g \S+ \S", text) or re.search(r" -j \S+ .*-m ", text):
+        return "words stand behind the target: a save writes all matches before `-j` and `-g`"
     if any(re.fullmatch(r"[A-Za-z][\w-]*\.[\w.-]+", address) for address in addresses):
         return "a host's name stands where a save writes an address"
     return f"this isn't a line that iptables-save writes. {SAVE}"
@@ -155,8 +156,13 @@ def no_filter(dump: Dump, said: str, line: int, chain: str, family: int) -> str:
 
 
 def undefined(dump: Dump, said: str, line: int, chain: str, family: int) -> str:
-    """Words for a rule of a chain that isn't declared."""
-    return at_line(dump, line, "the rule's chain isn't declared above by a line `:CHAIN -`: a part of the dump is missing")
+    """Words for a rule of a chain that isn't declared, or a goto to no declared user chain."""
+    rule = next((rule for rule in dump.all_rules() if rule.line == line), None)
+    if rule is None or rule.chain not in dump.policies:
+        return at_line(dump, line, "the rule's chain isn't declared above by a line `:CHAIN -`: a part of the dump is missing")
+    if rule.target in BUILT_IN or rule.target in TARGETS:
+        return at_line(dump, line, f"`-g` leads to a chain that is declared by a line `:CHAIN -`, and {rule.target} is none: no tool loads that")
+    return at_line(dump, line, f"the chain {rule.target} behind `-g` isn't declared above by a line `:CHAIN -`: a part of the dump is missing")
 
 
 def no_chain(dump: Dump, said: str, line: int, chain: str, family: int) -> str:
@@ -164,14 +170,14 @@ def no_chain(dump: Dump, said: str, line: int, chain: str, family: int) -> str:
     there = dump.asked_chains()
     which = f"there are {', '.join(there)}" if there else "no chain of this dump has a policy"
     if chain in dump.policies:
-        return f"{dump.name}: {chain} is a chain that others call; only chains with a policy are asked about: {which}"
+        return f"{dump.name}: {chain} is a chain to which others lead; only chains with a policy are asked about: {which}"
     upper = chain.upper()
     guess = f" (did you mean {upper}?)" if upper in there and upper in BUILT_IN else ""
     return f"{dump.name}: no chain {chain}: {which}{guess}"
 
 
 def unsupported(dump: Dump, said: str, line: int, chain: str, family: int) -> str:
-    """Words for a target in reach that isn't supported, with the calls that lead to it."""
+    """Words for a target in reach that isn't supported, with the calls and gotos that lead to it."""
     target = said.rsplit(" ", 1)[-1]
     advice = at_line(dump, line, f"the target {target} isn't supported, and this rule is in reach of {chain}")
     rule = next((rule for rule in dump.all_rules() if rule.line == line), None)
@@ -188,11 +194,11 @@ def reaches(dump: Dump, chain: str, line: int) -> bool:
 
 
 def loop(dump: Dump, said: str, line: int, chain: str, family: int) -> str:
-    """Words for a chain that calls itself, with the calls."""
+    """Words for a chain that leads to itself, with the calls and gotos."""
     name = said.rsplit(" ", 1)[-1]
     way = loop_through(dump, name)
     shown = "".join(f"\n    line {call.line}: {call.text}" for call in way)
-    return f"{dump.name}: the chain {name} calls itself; no kernel loads that" + shown
+    return f"{dump.name}: the chain {name} leads to itself; no kernel loads that" + shown
 
 
 def not_text(dump: Dump, said: str, line: int, chain: str, family: int) -> str:
@@ -201,7 +207,7 @@ def not_text(dump: Dump, said: str, line: int, chain: str, family: int) -> str:
 
 
 def loop_through(dump: Dump, name: str) -> List[Rule]:
-    """The calls by which a chain comes back to itself."""
+    """The rules with calls and gotos by which a chain comes back to itself."""
     for rule in dump.reach_rules(name):
         if rule.target == name:
             return dump.way_to(name, rule.chain) + [rule]
@@ -209,15 +215,15 @@ def loop_through(dump: Dump, name: str) -> List[Rule]:
 
 
 def limit(dump: Dump, said: str, line: int, chain: str, family: int) -> str:
-    """Words for a limit that was passed, with the chains that are called most."""
+    """Words for a limit that was passed, with the chains to which most rules lead."""
     word = said.rsplit(" ", 1)[-1]
     calls: dict = {}
     for rule in dump.reach_rules(chain):
         if rule.target in dump.policies:
             calls[rule.target] = calls.get(rule.target, 0) + 1
     most = sorted(calls.items(), key=lambda item: -item[1] * (1 + len(dump.rules.get(item[0], []))))[:3]
-    listed = ", ".join(f"{name} ({count} calls of {len(dump.rules.get(name, []))} rules)" for name, count in most if count > 1)
-    tail = f". Called most: {listed}" if listed else ""
+    listed = ", ".join(f"{name} (from {count} rules, to {len(dump.rules.get(name, []))} rules)" for name, count in most if count > 1)
+    tail = f". Most rules lead to: {listed}" if listed else ""
     return f"{dump.name}: too large, limit {word}: {LIMITS.get(word, said)}{tail}"
 
 

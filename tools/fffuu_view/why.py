@@ -28,13 +28,13 @@ def rule_at(asked: Asked, chain: str, number: int) -> Optional[Rule]:
 
 
 def place_lines(asked: Asked, place: Place) -> List[str]:
-    """A place as lines of the dump: the rule with its match, and the calls that lead to it."""
+    """A place as lines of the dump: the rule with its match, and the calls and gotos that lead to it."""
     rules = [rule_at(asked, chain, number) for chain, number in place.steps]
     here = rules[-1]
     if here is None or place.literal > len(here.matches):
         return ["  " + " > ".join(f"{chain} {number}" for chain, number in place.steps) + f" literal {place.literal}"]
     lines = [f"  line {here.line}: {here.text}", f"      where this holds: {here.matches[place.literal - 1].text()}"]
-    lines += [f"      called by line {rule.line}: {rule.text}" for rule in reversed(rules[:-1]) if rule]
+    lines += [f"      {rule.leads()} line {rule.line}: {rule.text}" for rule in reversed(rules[:-1]) if rule]
     return lines
 
 

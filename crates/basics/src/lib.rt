@@ -2,7 +2,5 @@
 #![tactic(auto)]
 
 mod parting;
-#[cfg(test)]
-mod tests;
 
 pub use parting::{last_parted, parted};

@@ -19,15 +19,15 @@ module _ {P : Type 0} (dump : Dump P) where
   IsLeastUnsupported asked line name = ((rule : Rule P) × IsUnsupported asked rule name × (rule.line ≡ line))
       × ((rule : Rule P) (other : List ℕ) → IsUnsupported asked rule other → line ≤ rule.line)
 
-  -- the one chain reaches the other over at least one call
+  -- the one chain reaches the other over at least one call or goto
   abbrev pub ReachesByCall : ℕ → ℕ → Type 0
   ReachesByCall a b = (k : ℕ) × Calls dump a k × Reaches dump k b
 
-  -- the asked chain reaches the chain, which calls itself over some path
+  -- the asked chain reaches the chain, which leads to itself over some path of calls and gotos
   abbrev pub IsLoop : ℕ → ℕ → Type 0
   IsLoop asked c = Reaches dump asked c × ReachesByCall c c
 
-  -- no chain in reach calls itself over any path
+  -- no chain in reach leads to itself over any path
   abbrev pub NoLoop : ℕ → Type 0
   NoLoop asked = (c : ℕ) → IsLoop asked c → ⊥
 

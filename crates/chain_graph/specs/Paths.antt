@@ -5,16 +5,16 @@ use Rattle.fw_rule.specs.Calls.{Calls, Reaches}
 use Rattle.limits.specs.declared.TheConstants.{MOST_CHAINS}
 
 module _ {P : Type 0} (dump : Dump P) where
-  -- each call names a chain
+  -- each call and goto names a chain
   abbrev pub CallsNameChains : Type 0
   CallsNameChains = (a b : ℕ) → Calls dump a b → b < length dump.chains
 
-  -- the chain calls the first of these, and each of them the next
+  -- the chain calls or goes to the first of these, and each of them the next
   abbrev pub Follow : ℕ → List ℕ → Type 0
   Follow c [] = Unit {0}
   Follow c (k ∷ ks) = Calls dump c k × Follow k ks
 
-  -- a call path of `n` chains begins at the chain: the chain itself, and those that follow it
+  -- a path of calls and gotos of `n` chains begins at the chain: the chain itself, and those that follow it
   abbrev pub HasPath : ℕ → ℕ → Type 0
   HasPath c n = (later : List ℕ) × Follow c later × (n ≡ suc (length later))
 

@@ -7,7 +7,7 @@ use Rattle.chain_graph.specs.Paths.{AreRanks}
 use Rattle.chain_graph.specs.Visits.{HasVisits}
 use Rattle.chain_graph.specs.Faults.{NoLoop}
 
--- the ranks and visits of the asked chain are exact: no call path from a chain in reach has more chains than its rank, and no chain in reach calls itself
+-- the ranks and visits of the asked chain are exact: no call path from a chain in reach has more chains than its rank, and no chain in reach leads to itself
 pub record IsRanked {P : Type 0} (dump : Dump P) (asked : ℕ) (r : Ranked) : Type 0 where
   pub entry : r.entry ≡ asked
   pub ranks : AreRanks dump asked r.ranks

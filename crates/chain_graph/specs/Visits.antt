@@ -1,4 +1,4 @@
--- How many rules a chain stands for, with those of the chains that it calls.
+-- How many rules a chain stands for, with those of the chains that it calls or goes to.
 use Rattle.std.specs.Prelude.{ℕ, suc, ◌+◌, ◌≡◌, List, [], ◌∷◌, None, Some, slice_get}
 use Rattle.fw_rule.specs.declared.rule.Rule.{Rule}
 use Rattle.fw_rule.specs.declared.rule.Chain.{Chain}

@@ -16,7 +16,7 @@ use std::alloc::Global;
 
 /// Checks that the calls of a chain end and that each target in its reach is supported, and ranks the chains in its reach.
 ///
-/// `Unsupported` comes exactly where a rule in reach has an unsupported target, `Loop` exactly where none has and a chain in reach calls itself over some path, and `Depth` exactly where
+/// `Unsupported` comes exactly where a rule in reach has an unsupported target, `Loop` exactly where none has and a chain in reach leads to itself over some path, and `Depth` exactly where
 /// neither stands and a call path from the chain has one chain more than `MOST_CHAINS`.
 pub fn check<P: Primitive>(alloc: Global, dump: &Dump<P>, chain: u32) -> Result<Ranked, GraphFault>
     requires there { chain < length dump.now.chains }

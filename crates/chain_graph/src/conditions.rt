@@ -42,7 +42,7 @@ fn callees_below<P: Primitive>(rules: &[Rule<P>], bound: usize) -> bool
     true
 }
 
-/// Whether each call names a chain: a condition of the other calls.
+/// Whether each call and goto names a chain: a condition of the other calls.
 pub fn calls_name_chains<P: Primitive>(dump: &Dump<P>) -> bool
     ensures { IsTrue result ↔ CallsNameChains dump.now }
 {

@@ -10,10 +10,10 @@ use thiserror::Error;
 pub struct Ranked {
     /// The asked chain.
     pub entry: u32,
-    /// For each chain in order the number of chains on the longest call path that begins there, at most `MOST_CHAINS`. None
+    /// For each chain in order the number of chains on the longest path of calls and gotos that begins there, at most `MOST_CHAINS`. None
     /// where the asked chain doesn't reach it.
     pub ranks: List<Option<u32>>,
-    /// The asked chain's rules, and with each call the rules that the called chain comes to. The sum stops at 2^64 - 1.
+    /// The asked chain's rules, and with each call or goto the rules that the chain it names comes to. The sum stops at 2^64 - 1.
     pub visits: u64,
 }
 
@@ -23,8 +23,8 @@ pub enum GraphFault {
     /// The least line of a rule in reach whose target isn't supported, and the target's name.
     #[error("line {line}: a target isn't supported")]
     Unsupported { line: u32, name: Bytes },
-    /// No target in reach is unsupported, and this is the first declared chain in reach that calls itself over some path.
-    #[error("chain {chain} calls itself")]
+    /// No target in reach is unsupported, and this is the first declared chain in reach that leads to itself over some path.
+    #[error("chain {chain} leads to itself")]
     Loop { chain: u32 },
     /// Neither stands, and a call path from the chain has one chain more than `MOST_CHAINS`.
     #[error("a call path is too long")]

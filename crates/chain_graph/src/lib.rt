@@ -1,4 +1,4 @@
-//! The call graph of a dump: which chains a chain reaches, and whether its calls end.
+//! The call graph of a dump: which chains a chain reaches, and whether its calls end. Calls are gotos too: each leads from a chain to another.
 #![tactic(auto)]
 
 mod checking;
@@ -9,8 +9,6 @@ mod loops;
 mod ranking;
 mod reach;
 mod targets;
-#[cfg(test)]
-mod tests;
 
 pub use checking::check;
 pub use conditions::{calls_name_chains, has_room};

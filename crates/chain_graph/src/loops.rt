@@ -61,9 +61,9 @@ fn never_rises<P: Primitive>(dump: &Dump<P>, marks: &[bool], numbers: &[u32]) ->
     true
 }
 
-/// The first declared chain in a chain's reach that calls itself over some path. None where no chain in reach does.
+/// The first declared chain in a chain's reach that leads to itself over some path. None where no chain in reach does.
 ///
-/// The work is in proportion to the rules and calls: where numbers show that a chain doesn't call itself, it costs no search of its own.
+/// The work is in proportion to the rules and calls: where numbers show that a chain doesn't lead to itself, it costs no search of its own.
 pub fn first_loop<P: Primitive>(
     alloc: Global,
     dump: &Dump<P>,

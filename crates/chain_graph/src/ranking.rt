@@ -90,7 +90,7 @@ fn ranks_in(alloc: Global, table: &[Option<Found>]) -> Result<Vec<Option<u32>>, 
 }
 
 /// The ranks of the chains that a chain reaches, and its visits. None where a call path from it
-/// has more chains than `MOST_CHAINS`, as it has where one of them calls itself.
+/// has more chains than `MOST_CHAINS`, as it has where one of them leads to itself.
 pub fn ranked<P: Primitive>(
     alloc: Global,
     dump: &Dump<P>,

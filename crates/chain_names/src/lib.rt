@@ -84,6 +84,3 @@ impl ChainNames {
         self.names.is_empty()
     }
 }
-
-#[cfg(test)]
-mod tests;

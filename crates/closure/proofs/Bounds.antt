@@ -13,8 +13,8 @@ use Rattle.fw_rule.specs.declared.side.Side.{Side}
 use Rattle.fw_rule.specs.Matching.{known_of, known_in, doubt_in}
 use Rattle.closure.specs.Rewriting.{kind, rules_of}
 use Rattle.closure.specs.declared.modes.ActionKind.{ActionKind}
-use Rattle.closure.specs.declared.modes.ActionKind.TheVariants.{GoodVerdict, BadVerdict, GoOn, GoBack, CallTo}
-use Rattle.closure.proofs.Outcomes.{AsGood, Outcome, Good, Ends, Bad, or_end, then_rest, or_rest, best_row, best_rules, best, Truth, under, step_of, lits_hold, walked_rules, walked}
+use Rattle.closure.specs.declared.modes.ActionKind.TheVariants.{GoodVerdict, BadVerdict, GoOn, GoBack, CallTo, GoTo}
+use Rattle.closure.proofs.Outcomes.{AsGood, Outcome, Good, Ends, Bad, or_end, then_rest, or_rest, better, best_row, best_rules, best, Truth, under, step_of, lits_hold, walked_rules, walked}
 
 as_bad : (a : Outcome) → AsGood a Bad
 as_bad Good = tt
@@ -56,6 +56,20 @@ or_then_more Bad Good x y h g = absurd h
 or_then_more Bad Ends x y h g = absurd h
 or_then_more Bad Bad x y h g = as_bad x
 
+better_first : (a b x : Outcome) → AsGood a b → AsGood (better a x) b
+better_first Good b x h = tt
+better_first Ends Good x h = absurd h
+better_first Ends Ends x h = or_end_end x
+better_first Ends Bad x h = as_bad (or_end x)
+better_first Bad Good x h = absurd h
+better_first Bad Ends x h = absurd h
+better_first Bad Bad x h = as_bad x
+
+better_more : (a x y : Outcome) → AsGood x y → AsGood (better a x) y
+better_more Good x y g = tt
+better_more Ends x y g = or_end_more x y g
+better_more Bad x y g = g
+
 module _ {P : Type 0} (h : P → Bool) where
   pub of_known : (neg : Bool) (x : Expr P) → eval_of h (if neg then Not x else x) ≡ (if neg then not (eval_of h x) else eval_of h x)
   of_known true x = eval-Not h x
@@ -89,6 +103,7 @@ sure_row best_callee callee best_rest rest hc hr BadVerdict = tt
 sure_row best_callee callee best_rest rest hc hr GoOn = hr
 sure_row best_callee callee best_rest rest hc hr GoBack = tt
 sure_row best_callee callee best_rest rest hc hr (CallTo c) = then_more (best_callee c) (callee c) best_rest rest (hc c) hr
+sure_row best_callee callee best_rest rest hc hr (GoTo c) = hc c
 
 -- a doubtful rule that matches
 doubtful_row : (best_callee callee : ℕ → Outcome) (best_rest rest : Outcome) → ((c : ℕ) → AsGood (best_callee c) (callee c)) → AsGood best_rest rest →
@@ -98,6 +113,7 @@ doubtful_row best_callee callee best_rest rest hc hr BadVerdict = as_bad best_re
 doubtful_row best_callee callee best_rest rest hc hr GoOn = hr
 doubtful_row best_callee callee best_rest rest hc hr GoBack = or_end_end best_rest
 doubtful_row best_callee callee best_rest rest hc hr (CallTo c) = or_then_more (best_callee c) (callee c) best_rest rest (hc c) hr
+doubtful_row best_callee callee best_rest rest hc hr (GoTo c) = better_first (best_callee c) (callee c) best_rest (hc c)
 
 -- a doubtful rule that doesn't match
 missed_row : (best_callee : ℕ → Outcome) (best_rest rest : Outcome) → AsGood best_rest rest → (what : ActionKind) → AsGood (best_row best_callee best_rest true what) rest
@@ -106,6 +122,7 @@ missed_row best_callee best_rest rest hr BadVerdict = hr
 missed_row best_callee best_rest rest hr GoOn = hr
 missed_row best_callee best_rest rest hr GoBack = or_end_more best_rest rest hr
 missed_row best_callee best_rest rest hr (CallTo c) = or_rest_more (best_callee c) best_rest rest hr
+missed_row best_callee best_rest rest hr (GoTo c) = better_more (best_callee c) best_rest rest hr
 
 -- known literals that hold or not, a match or not, a doubtful rule or not
 any_row : (best_callee callee : ℕ → Outcome) (best_rest rest : Outcome) → ((c : ℕ) → AsGood (best_callee c) (callee c)) → AsGood best_rest rest → (what : ActionKind) →

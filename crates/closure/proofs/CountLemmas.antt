@@ -23,7 +23,7 @@ use Rattle.closure.specs.Rewriting.{Tree, nodes, kind, row_of, shape, items, tre
 use Rattle.closure.specs.inner.Counts.{capped, in_mode, entry, row_items, rule_items, rules_items}
 use Rattle.closure.specs.inner.Counted.{counts_of, IsCounted, AreCounted}
 use Rattle.closure.proofs.Depths.{items_same, same_tree}
-use Rattle.closure.proofs.FlatLemmas.{run_kind, calls, within_some}
+use Rattle.closure.proofs.FlatLemmas.{Runs, run_kind, calls, within_some}
 use Rattle.closure.proofs.RankReads.{rank_at, rank_is, within_rank, within_limit}
 use Rattle.closure.proofs.NodeLemmas.{tree_nodes}
 
@@ -55,6 +55,9 @@ both_more x n y k e f = omega (arith, e, f)
 later_more : (x n y k : ℕ) → x ≡ capped n → y ≡ capped k → capped (suc (x + suc y)) ≡ capped (suc (n + suc k))
 later_more x n y k e f = omega (arith, e, f)
 
+goto_more : (x n y k z l : ℕ) → x ≡ capped n → y ≡ capped k → z ≡ capped l → capped (suc (x + suc (suc (y + 1) + z))) ≡ capped (suc (n + suc (suc (k + 1) + l)))
+goto_more x n y k z l e f g = omega (arith, e, f, g)
+
 module _ {P : Type 0} where
   module _ (callee : ℕ → Mode → Tree P) (same : (c j : ℕ) → nodes (callee c (Soft (suc j))) ≡ nodes (callee c Hard)) (entries : ℕ → Counts) where
     called : (c : ℕ) → entries c ≡ counts_of (callee c) → (m : Mode) → in_mode (entries c) m ≡ capped (nodes (callee c m))
@@ -63,13 +66,16 @@ module _ {P : Type 0} where
     called c e (Soft (suc j)) = ap (λ (z : Counts). z.hard) e ∙ ap capped (sym (same c j))
 
     shape_items : (counts : Counts) (rest : Mode → Tree P) (mode : Mode) → in_mode counts mode ≡ capped (nodes (rest mode)) → counts.soft ≡ capped (nodes (rest (Soft 0))) → (k : Expr P) (r : Row) →
-        ((c : ℕ) (m : Mode) → r ≡ Row.Run c m → entries c ≡ counts_of (callee c)) →
+        ((c : ℕ) (m : Mode) → Runs r c m → entries c ≡ counts_of (callee c)) →
         capped (row_items (λ (c : ℕ). in_mode (entries c)) (in_mode counts) mode r) ≡ capped (nodes (shape callee k rest mode r))
     shape_items counts rest mode e s k Row.Skip f = skipped (in_mode counts mode) (nodes (rest mode)) e
     shape_items counts rest mode e s k (Row.Decide v) f = one_more (in_mode counts mode) (nodes (rest mode)) e
     shape_items counts rest mode e s k (Row.Leave n) f = one_more (in_mode counts mode) (nodes (rest mode)) e
     shape_items counts rest mode e s k Row.LeaveLater f = later_more counts.soft (nodes (rest (Soft 0))) (in_mode counts mode) (nodes (rest mode)) s e
-    shape_items counts rest mode e s k (Row.Run c m) f = both_more (in_mode (entries c) m) (nodes (callee c m)) (in_mode counts mode) (nodes (rest mode)) (called c (f c m refl) m) e
+    shape_items counts rest mode e s k (Row.Run c m) f = both_more (in_mode (entries c) m) (nodes (callee c m)) (in_mode counts mode) (nodes (rest mode)) (called c (f c m (refl, refl)) m) e
+    shape_items counts rest mode e s k (Row.RunThenLeave c m) f = later_more (in_mode (entries c) m) (nodes (callee c m)) (in_mode counts mode) (nodes (rest mode)) (called c (f c m (refl, refl)) m) e
+    shape_items counts rest mode e s k (Row.RunLater c) f =
+        goto_more counts.soft (nodes (rest (Soft 0))) (in_mode (entries c) (Soft 1)) (nodes (callee c (Soft 1))) (in_mode counts mode) (nodes (rest mode)) s (called c (f c (Soft 1) (refl, refl)) (Soft 1)) e
 
   module _ (side : Side) (callee : ℕ → Mode → Tree P) (same : (c j : ℕ) → nodes (callee c (Soft (suc j))) ≡ nodes (callee c Hard)) (table : List Counts) where
     one_rule : (rule : Rule P) (rules : List (Rule P)) → ((k : ℕ) → target_of rule.action ≡ Some k → entry table k ≡ counts_of (callee k)) →
@@ -79,7 +85,7 @@ module _ {P : Type 0} where
     one_rule rule rules table_is rest mode e =
         shape_items callee same (entry table) (rules_items side table rules) (items side callee rules) mode e (ap (λ (z : Counts). z.soft) rest) (known_of rule)
         (row_of side (doubt_in rule.lits) (kind side rule.action) mode)
-        (λ c m r. table_is c (calls side rule.action c (run_kind side (doubt_in rule.lits) (kind side rule.action) mode m c (sym r)).0))
+        (λ c m r. table_is c (calls side rule.action c (run_kind side (doubt_in rule.lits) (kind side rule.action) mode m c r).0))
 
     -- it is enough that the table has the numbers of the called chains
     pub rules_counted : (rules : List (Rule P)) → ((i : ℕ) (rule : Rule P) (k : ℕ) → slice_get rules i ≡ Some rule → target_of rule.action ≡ Some k → entry table k ≡ counts_of (callee k)) →

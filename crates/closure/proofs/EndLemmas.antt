@@ -12,7 +12,7 @@ use Rattle.fw_rule.specs.Matching.{known_of, doubt_in}
 use Rattle.fw_rule.specs.declared.side.Side.{Side}
 use Rattle.closure.specs.declared.ends.Ends.{Ends}
 use Rattle.closure.specs.declared.modes.ActionKind.{ActionKind}
-use Rattle.closure.specs.declared.modes.ActionKind.TheVariants.{GoodVerdict, BadVerdict, GoOn, GoBack, CallTo}
+use Rattle.closure.specs.declared.modes.ActionKind.TheVariants.{GoodVerdict, BadVerdict, GoOn, GoBack, CallTo, GoTo}
 use Rattle.closure.specs.declared.modes.Mode.{Mode}
 use Rattle.closure.specs.declared.modes.Mode.TheVariants.{Hard, Soft}
 use Rattle.closure.specs.declared.modes.Row.{Row}
@@ -44,6 +44,9 @@ quiet_soft table side true GoBack zero h = tt
 quiet_soft table side true GoBack (suc j) h = tt
 quiet_soft table side false (CallTo c) j h = h
 quiet_soft table side true (CallTo c) j h = h
+quiet_soft table side false (GoTo c) j h = h
+quiet_soft table side true (GoTo c) zero h = h
+quiet_soft table side true (GoTo c) (suc j) h = h
 
 module _ {P : Type 0} where
   module _ (table : List Ends) (callee : ℕ → Mode → Tree P) (calls : AreSilent table callee) (k : Expr P) (rest : Mode → Tree P) (mode : Mode) where
@@ -53,6 +56,8 @@ module _ {P : Type 0} where
     shape_silent (Row.Leave n) q h s = h
     shape_silent Row.LeaveLater q h s = (s, h)
     shape_silent (Row.Run c m) q h s = (calls c m q, h)
+    shape_silent (Row.RunThenLeave c m) q h s = (calls c m q, h)
+    shape_silent (Row.RunLater c) q h s = (s, ((calls c (Soft 1) q, tt), h))
 
   -- what stands behind in a silent list is silent
   rest_silent : (callee : ℕ → Mode → Tree P) (k : Expr P) (rest : Mode → Tree P) (mode : Mode) (r : Row) → IsSilent (shape callee k rest mode r) → IsSilent (rest mode)
@@ -61,6 +66,8 @@ module _ {P : Type 0} where
   rest_silent callee k rest mode (Row.Leave n) h = h
   rest_silent callee k rest mode Row.LeaveLater h = h.1
   rest_silent callee k rest mode (Row.Run c m) h = h.1
+  rest_silent callee k rest mode (Row.RunThenLeave c m) h = h.1
+  rest_silent callee k rest mode (Row.RunLater c) h = (h.1).1
 
   module _ (side : Side) (callee : ℕ → Mode → Tree P) (mode : Mode) where
     all_silent : (rules : List (Rule P)) (n : ℕ) → IsSilent (items side callee rules mode) → IsSilent (items side callee (drop n rules) mode)

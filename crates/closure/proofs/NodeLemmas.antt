@@ -5,11 +5,11 @@ use Rattle.fw_rule.specs.declared.rule.Rule.{Rule}
 use Rattle.fw_rule.specs.declared.rule.Dump.{Dump}
 use Rattle.fw_rule.specs.declared.side.Side.{Side}
 use Rattle.closure.specs.declared.modes.ActionKind.{ActionKind}
-use Rattle.closure.specs.declared.modes.ActionKind.TheVariants.{GoodVerdict, BadVerdict, GoOn, GoBack, CallTo}
+use Rattle.closure.specs.declared.modes.ActionKind.TheVariants.{GoodVerdict, BadVerdict, GoOn, GoBack, CallTo, GoTo}
 use Rattle.closure.specs.declared.modes.Mode.{Mode}
 use Rattle.closure.specs.declared.modes.Mode.TheVariants.{Hard, Soft}
 use Rattle.fw_rule.specs.Matching.{known_of, doubt_in}
-use Rattle.closure.specs.Rewriting.{Tree, nodes, row_of, shape, items, tree, kind, rules_of}
+use Rattle.closure.specs.Rewriting.{Tree, nodes, row_of, shape, to_the_end, items, tree, kind, rules_of}
 
 module _ {P : Type 0} (side : Side) where
   row_nodes : (callee : ℕ → Mode → Tree P) → ((c j : ℕ) → nodes (callee c (Soft (suc j))) ≡ nodes (callee c Hard)) → (k : Expr P) (rest : Mode → Tree P) (j : ℕ) →
@@ -25,6 +25,8 @@ module _ {P : Type 0} (side : Side) where
   row_nodes callee hc k rest j e false GoBack = ap suc e
   row_nodes callee hc k rest j e true (CallTo c) = ap (λ (n : ℕ). suc (nodes (callee c (Soft 0)) + n)) e
   row_nodes callee hc k rest j e false (CallTo c) = rw (hc c (suc j), e) refl
+  row_nodes callee hc k rest j e true (GoTo c) = ap (λ (n : ℕ). suc (nodes (rest (Soft 0)) + suc (nodes (to_the_end (callee c (Soft 1))) + n))) e
+  row_nodes callee hc k rest j e false (GoTo c) = rw (hc c (suc j), e) refl
 
   items_nodes : (callee : ℕ → Mode → Tree P) → ((c j : ℕ) → nodes (callee c (Soft (suc j))) ≡ nodes (callee c Hard)) → (rules : List (Rule P)) (j : ℕ) →
       nodes (items side callee rules (Soft (suc j))) ≡ nodes (items side callee rules Hard)

@@ -13,7 +13,7 @@ use Rattle.std.specs.List.{list_any}
 use Rattle.fw_rule.specs.Walk.{Meaning, same_place}
 use Rattle.closure.specs.Rewriting.{kind, rules_of}
 use Rattle.closure.specs.declared.modes.ActionKind.{ActionKind}
-use Rattle.closure.specs.declared.modes.ActionKind.TheVariants.{GoodVerdict, BadVerdict, GoOn, GoBack, CallTo}
+use Rattle.closure.specs.declared.modes.ActionKind.TheVariants.{GoodVerdict, BadVerdict, GoOn, GoBack, CallTo, GoTo}
 
 -- a verdict that the side wants, the chain's end, or the other verdict
 pub data Outcome : Type 0 where
@@ -39,6 +39,21 @@ or_rest Good rest = Good
 or_rest Ends rest = rest
 or_rest Bad rest = rest
 
+-- the better of what a goto's chain comes to and what the rest does
+abbrev pub better : Outcome → Outcome → Outcome
+better Good rest = Good
+better Ends rest = or_end rest
+better Bad rest = rest
+
+-- the chain that a call or a goto names
+abbrev pub target_in : ActionKind → Option ℕ
+target_in GoodVerdict = None
+target_in BadVerdict = None
+target_in GoOn = None
+target_in GoBack = None
+target_in (CallTo c) = Some c
+target_in (GoTo c) = Some c
+
 -- the best that a rule whose known literals hold can come to, with the rest behind it
 abbrev pub best_row : (ℕ → Outcome) → Outcome → Bool → ActionKind → Outcome
 best_row callee rest d GoodVerdict = Good
@@ -49,6 +64,8 @@ best_row callee rest false GoBack = Ends
 best_row callee rest true GoBack = or_end rest
 best_row callee rest false (CallTo c) = then_rest (callee c) rest
 best_row callee rest true (CallTo c) = or_rest (callee c) rest
+best_row callee rest false (GoTo c) = callee c
+best_row callee rest true (GoTo c) = better (callee c) rest
 
 module _ {P : Type 0} (side : Side) (h : P → Bool) where
   -- the best that a list of rules can come to, where `callee` has the best of chains
@@ -66,7 +83,7 @@ module _ {P : Type 0} (side : Side) (h : P → Bool) where
 abbrev pub Truth : Type 0
 Truth = List Step → ℕ → Bool
 
--- the same truth, seen from below a call
+-- the same truth, seen from below a call or a goto
 abbrev pub under : Step → Truth → Truth
 under s t = λ (steps : List Step) (l : ℕ). t (s ∷ steps) l
 

@@ -8,7 +8,7 @@ use Rattle.fw_rule.specs.declared.rule.Dump.{Dump}
 use Rattle.fw_rule.specs.Matching.{doubt_in}
 use Rattle.fw_rule.specs.declared.side.Side.{Side}
 use Rattle.closure.specs.declared.modes.ActionKind.{ActionKind}
-use Rattle.closure.specs.declared.modes.ActionKind.TheVariants.{GoodVerdict, BadVerdict, GoOn, GoBack, CallTo}
+use Rattle.closure.specs.declared.modes.ActionKind.TheVariants.{GoodVerdict, BadVerdict, GoOn, GoBack, CallTo, GoTo}
 use Rattle.closure.specs.declared.modes.Mode.{Mode}
 use Rattle.closure.specs.declared.modes.Mode.TheVariants.{Hard, Soft}
 use Rattle.closure.specs.declared.modes.Row.{Row}
@@ -47,6 +47,11 @@ skipped_alike side (Soft zero) (Soft (suc j)) same true GoBack e = cc
 skipped_alike side Hard n same false (CallTo c) e = cc
 skipped_alike side (Soft j) n same false (CallTo c) e = cc
 skipped_alike side m n same true (CallTo c) e = cc
+skipped_alike side Hard n same false (GoTo c) e = cc
+skipped_alike side (Soft j) n same false (GoTo c) e = cc
+skipped_alike side Hard n same true (GoTo c) e = cc
+skipped_alike side (Soft zero) n same true (GoTo c) e = cc
+skipped_alike side (Soft (suc j)) n same true (GoTo c) e = cc
 
 module _ {P : Type 0} (side : Side) (rules : List (Rule P)) (mode : Mode) where
   -- the list so far, and the place that comes next, where so many last rules were looked at

@@ -22,7 +22,7 @@ use Rattle.closure.specs.Rewriting.{Tree, Done, Decide, Leave, Block, kind, row_
 use Rattle.closure.specs.Flat.{escape, carried, stayed, escapes, flat_of, flat_list}
 use Rattle.match_expr.specs.Primitives.{joined, listed, primitives_in}
 use Rattle.closure.specs.Sources.{IsKnown, AreKnown}
-use Rattle.closure.proofs.FlatLemmas.{run_kind, calls}
+use Rattle.closure.proofs.FlatLemmas.{Runs, run_kind, calls}
 use Rattle.closure.proofs.Depths.{stands}
 
 -- what goes over from parts to their All and their Not goes over from the items of a tree to its flat list
@@ -82,12 +82,15 @@ module _ {P : Type 0} (Q : Expr P → Type 0) (of_all : (es : List (Expr P)) →
 
   module _ (side : Side) where
     row_items : (callee : ℕ → Mode → Tree P) (k : Expr P) (rest : Mode → Tree P) (mode : Mode) (r : Row) → Q k → ((m : Mode) → Items (rest m)) →
-        ((c : ℕ) (m : Mode) → r ≡ Row.Run c m → Items (callee c m)) → Items (shape callee k rest mode r)
+        ((c : ℕ) (m : Mode) → Runs r c m → Items (callee c m)) → Items (shape callee k rest mode r)
     row_items callee k rest mode Row.Skip q behind called = behind mode
     row_items callee k rest mode (Row.Decide v) q behind called = (q, behind mode)
     row_items callee k rest mode (Row.Leave n) q behind called = (q, behind mode)
     row_items callee k rest mode Row.LeaveLater q behind called = (q, behind (Soft 0), (q, behind mode))
-    row_items callee k rest mode (Row.Run c m) q behind called = (q, called c m refl, behind mode)
+    row_items callee k rest mode (Row.Run c m) q behind called = (q, called c m (refl, refl), behind mode)
+    row_items callee k rest mode (Row.RunThenLeave c m) q behind called = (q, called c m (refl, refl), (q, behind mode))
+    row_items callee k rest mode (Row.RunLater c) q behind called =
+        (q, behind (Soft 0), (q, (of_all [] tt, called c (Soft 1) (refl, refl), (of_all [] tt, tt)), behind mode))
 
     rules_items : (callee : ℕ → Mode → Tree P) (rules : List (Rule P)) →
         ((i : ℕ) (rule : Rule P) → slice_get rules i ≡ Some rule → Q (known_of rule) × ((k : ℕ) (m : Mode) → target_of rule.action ≡ Some k → Items (callee k m))) →
@@ -97,7 +100,7 @@ module _ {P : Type 0} (Q : Expr P → Type 0) (of_all : (es : List (Expr P)) →
         let one = each 0 rule refl in
         row_items callee (known_of rule) (λ (m : Mode). items side callee rules m) mode (row_of side (doubt_in rule.lits) (kind side rule.action) mode) one.0
         (λ m. rules_items callee rules (λ i r e. each (suc i) r e) m)
-        (λ k m e. one.1 k m (calls side rule.action k (run_kind side (doubt_in rule.lits) (kind side rule.action) mode m k (sym e)).0))
+        (λ k m e. one.1 k m (calls side rule.action k (run_kind side (doubt_in rule.lits) (kind side rule.action) mode m k e).0))
 
     tree_items : (dump : Dump P) (asked : ℕ) → ((c : ℕ) (rule : Rule P) → Reaches dump asked c → RuleOf dump c rule → Q (known_of rule)) →
         (depth c : ℕ) → Reaches dump asked c → (mode : Mode) → Items (tree side dump depth c mode)

@@ -1,8 +1,9 @@
 -- Some walk has the best outcome.
-use Rattle.std.proofs.Common.{◌≡◌, ℕ, zero, suc, ◌+◌, ◌<◌, ◌≤◌, Bool, true, false, not, ◌&&◌, ◌||◌, ◌==◌, List, [], ◌∷◌, ◌++◌, map, if◌then◌else◌, refl, sym, ◌∙◌, ap, subst, true≢false, arith, eqb}
+use Rattle.std.proofs.Common.{◌≡◌, ℕ, zero, suc, ◌+◌, ◌<◌, ◌≤◌, Bool, true, false, not, ◌&&◌, ◌||◌, ◌==◌, List, [], ◌∷◌, ◌++◌, map, if◌then◌else◌, Some, refl, sym, ◌∙◌, ap, subst, true≢false, arith, eqb}
 use Rattle.std.specs.Cmp.Lexicographic.{pointwise}
 use Rattle.std.proofs.lemmas.List.Folds.{list_any-append}
 use Rattle.std.proofs.lemmas.Bool.Decides.{nat_tests}
+use Rattle.std.proofs.lemmas.Option.{same_Some}
 use Rattle.basics.proofs.Truths.{and_assoc, and_false, or_right}
 use Rattle.match_expr.specs.Meaning.{eval_of, every}
 use Rattle.match_expr.proofs.Equations.{eval-All}
@@ -15,11 +16,11 @@ use Rattle.fw_rule.specs.declared.side.Side.{Side}
 use Rattle.fw_rule.specs.Matching.{known_of, known_in, doubt_in}
 use Rattle.closure.specs.Rewriting.{kind, rules_of}
 use Rattle.closure.specs.declared.modes.ActionKind.{ActionKind}
-use Rattle.closure.specs.declared.modes.ActionKind.TheVariants.{GoodVerdict, BadVerdict, GoOn, GoBack, CallTo}
+use Rattle.closure.specs.declared.modes.ActionKind.TheVariants.{GoodVerdict, BadVerdict, GoOn, GoBack, CallTo, GoTo}
 use Rattle.closure.proofs.Bounds.{of_known}
-use Rattle.closure.proofs.Outcomes.{truth_of, Outcome, Good, Ends, Bad, then_rest, or_rest, best_row, best_rules, best, Truth, under, step_of, lits_hold, walked_rules, walked}
+use Rattle.closure.proofs.Outcomes.{truth_of, Outcome, Good, Ends, Bad, then_rest, or_rest, better, target_in, best_row, best_rules, best, Truth, under, step_of, lits_hold, walked_rules, walked}
 
--- the same places, one call further down
+-- the same places, one call or goto further down
 abbrev pub below : Step → Meaning → Meaning
 below s [] = []
 below s (q ∷ qs) = record { steps = s ∷ q.steps; lit = q.lit } ∷ below s qs
@@ -98,14 +99,15 @@ module _ {P : Type 0} (h : P → Bool) where
   lits_cong t u steps l (Lit.Known neg x ∷ lits) e = rw (lits_cong t u steps (l + 1) lits e) refl
   lits_cong t u steps l (Lit.Unknown text ∷ lits) e = rw (e l, lits_cong t u steps (l + 1) lits e) refl
 
-row_same : (f g : ℕ → Outcome) (x y : Outcome) → x ≡ y → (what : ActionKind) → ((c : ℕ) → what ≡ CallTo c → f c ≡ g c) → best_row f x false what ≡ best_row g y false what
+row_same : (f g : ℕ → Outcome) (x y : Outcome) → x ≡ y → (what : ActionKind) → ((c : ℕ) → target_in what ≡ Some c → f c ≡ g c) → best_row f x false what ≡ best_row g y false what
 row_same f g x y e GoodVerdict q = refl
 row_same f g x y e BadVerdict q = refl
 row_same f g x y e GoOn q = e
 row_same f g x y e GoBack q = refl
 row_same f g x y e (CallTo c) q = rw (q c refl, e) refl
+row_same f g x y e (GoTo c) q = q c refl
 
-pub row_if : (b b' : Bool) (f g : ℕ → Outcome) (x y : Outcome) → b ≡ b' → x ≡ y → (what : ActionKind) → ((c : ℕ) → what ≡ CallTo c → f c ≡ g c) →
+pub row_if : (b b' : Bool) (f g : ℕ → Outcome) (x y : Outcome) → b ≡ b' → x ≡ y → (what : ActionKind) → ((c : ℕ) → target_in what ≡ Some c → f c ≡ g c) →
     (if b then best_row f x false what else x) ≡ (if b' then best_row g y false what else y)
 row_if true true f g x y q e what r = row_same f g x y e what r
 row_if true false f g x y q e what r = absurd (true≢false q)
@@ -134,6 +136,21 @@ module _ {P : Type 0} (side : Side) (h : P → Bool) where
   walked_cong dump zero c t u e = refl
   walked_cong dump (suc depth) c t u e = rules_cong (walked side h dump depth) (walked_cong dump depth) c 0 t u (rules_of dump c) (λ j steps l g. e (step_of c j) steps l)
 
+-- whether a doubtful goto is to match, by what its chain and the rest can come to
+abbrev takes : Outcome → Outcome → Bool
+takes Good r = true
+takes Ends Good = false
+takes Ends Ends = true
+takes Ends Bad = true
+takes Bad r = false
+
+took : (a r : Outcome) → (if takes a r then a else r) ≡ better a r
+took Good r = refl
+took Ends Good = refl
+took Ends Ends = refl
+took Ends Bad = refl
+took Bad r = refl
+
 -- whether a doubtful rule is to match, by what its callee and the rest can come to
 abbrev choice : (ℕ → Outcome) → Outcome → ActionKind → Bool
 choice f r GoodVerdict = true
@@ -142,6 +159,7 @@ choice f r GoOn = false
 choice f Good GoBack = false
 choice f Ends GoBack = true
 choice f Bad GoBack = true
+choice f r (GoTo c) = takes (f c) r
 choice f r (CallTo c) = is_good (f c)
   where
     is_good : Outcome → Bool
@@ -159,6 +177,7 @@ choice_right f r GoOn true true = refl
 choice_right f Good GoBack true true = refl
 choice_right f Ends GoBack true true = refl
 choice_right f Bad GoBack true true = refl
+choice_right f r (GoTo c) true true = took (f c) r
 choice_right f r (CallTo c) true true = by (f c) refl
   where
     by : (o : Outcome) → f c ≡ o → (if choice f r (CallTo c) then then_rest (f c) r else r) ≡ or_rest (f c) r
@@ -178,7 +197,7 @@ three : (a b c : Meaning) (steps : List Step) (l : ℕ) (x y z : Bool) → truth
     truth_of (a ++ (b ++ c)) steps l ≡ (x || (y || z))
 three a b c steps l x y z p q r = truth_append a (b ++ c) steps l ∙ rw (p, truth_append b c steps l) (rw (q, r) refl)
 
--- a meaning of a rule, of the chain that it calls and of the rules behind it
+-- a meaning of a rule, of the chain that it calls or goes to and of the rules behind it
 module _ {P : Type 0} (h : P → Bool) (c n : ℕ) (rule : Rule P) (m1 m2 : Meaning) (b : Bool)
     (none1 : (l : ℕ) → truth_of m1 [] l ≡ false) (none2 : (l : ℕ) → truth_of m2 [] l ≡ false)
     (later2 : (j : ℕ) (steps : List Step) (l : ℕ) → j < n + 1 → truth_of m2 (step_of c j ∷ steps) l ≡ false) where
@@ -237,16 +256,17 @@ module _ {P : Type 0} (h : P → Bool) (c n : ℕ) (rule : Rule P) (m1 m2 : Mean
 abbrev pub Tight : (Truth → Outcome) → Outcome → Type 0
 Tight comes o = (m : Meaning) × ((l : ℕ) → truth_of m [] l ≡ false) × (comes (truth_of m) ≡ o)
 
--- of a rule: a meaning of the chain that it calls, if it calls one
+-- of a rule: a meaning of the chain that it calls or goes to, if there is one
 abbrev Below : (ℕ → Truth → Outcome) → (ℕ → Outcome) → ActionKind → Type 0
-Below callee best_callee what = (m : Meaning) × ((l : ℕ) → truth_of m [] l ≡ false) × ((k : ℕ) → what ≡ CallTo k → callee k (truth_of m) ≡ best_callee k)
+Below callee best_callee what = (m : Meaning) × ((l : ℕ) → truth_of m [] l ≡ false) × ((k : ℕ) → target_in what ≡ Some k → callee k (truth_of m) ≡ best_callee k)
 
 of_kind : (callee : ℕ → Truth → Outcome) (best_callee : ℕ → Outcome) → ((k : ℕ) → Tight (callee k) (best_callee k)) → (what : ActionKind) → Below callee best_callee what
 of_kind callee best_callee hc GoodVerdict = ([], λ l. refl, λ k e. cc)
 of_kind callee best_callee hc BadVerdict = ([], λ l. refl, λ k e. cc)
 of_kind callee best_callee hc GoOn = ([], λ l. refl, λ k e. cc)
 of_kind callee best_callee hc GoBack = ([], λ l. refl, λ k e. cc)
-of_kind callee best_callee hc (CallTo c) = ((hc c).0, (hc c).1, λ k e. let q : c ≡ k = cc in subst (λ (z : ℕ). callee z (truth_of (hc c).0) ≡ best_callee z) q (hc c).2)
+of_kind callee best_callee hc (CallTo c) = ((hc c).0, (hc c).1, λ k e. subst (λ (z : ℕ). callee z (truth_of (hc c).0) ≡ best_callee z) (same_Some c k e) (hc c).2)
+of_kind callee best_callee hc (GoTo c) = ((hc c).0, (hc c).1, λ k e. subst (λ (z : ℕ). callee z (truth_of (hc c).0) ≡ best_callee z) (same_Some c k e) (hc c).2)
 
 module _ {P : Type 0} (side : Side) (h : P → Bool) (callee : ℕ → Truth → Outcome) (best_callee : ℕ → Outcome)
     (hcong : (c : ℕ) (t u : Truth) → Agree t u → callee c t ≡ callee c u) (hc : (k : ℕ) → Tight (callee k) (best_callee k)) where

@@ -13,7 +13,7 @@ use Rattle.closure.specs.Rewriting.{Tree}
 use Rattle.closure.specs.Flat.{flat_list, literals_in}
 use Rattle.closure.specs.Stream.{cut_all, cut_out, stream}
 use Rattle.closure.specs.inner.Counts.{capped}
-use Rattle.closure.specs.inner.Totals.{with_literals, total_of, lit_count}
+use Rattle.closure.specs.inner.Totals.{with_literals, together, total_of, lit_count}
 use Rattle.closure.proofs.Streams.{stream_is}
 
 added : (n k : ℕ) → capped (capped n + k) ≡ capped (n + k)
@@ -23,10 +23,6 @@ pub summed : (n k x y : ℕ) → capped k ≡ capped y → n ≡ capped x → ca
 summed n k x y e f = omega (arith, e, f)
 
 module _ {P : Type 0} where
-  -- the literals of these expressions together
-  abbrev pub together : List (Expr P) → ℕ
-  together es = sum_of (map literal_count es)
-
   pub together_append : (a b : List (Expr P)) → together (a ++ b) ≡ together a + together b
   together_append [] b = omega arith
   together_append (e ∷ a) b = let h = together_append a b in omega (arith, h)

@@ -1,18 +1,19 @@
 -- The tree of a chain comes to the best outcome, in each mode.
 use Rattle.std.proofs.Common.{◌≡◌, ℕ, zero, suc, Bool, true, false, List, [], ◌∷◌, if◌then◌else◌, refl, sym, ◌∙◌, ap}
 use Rattle.match_expr.specs.Meaning.{eval_of}
+use Rattle.match_expr.proofs.Equations.{eval-All}
 use Rattle.match_expr.specs.declared.expr.Expr.{Expr}
 use Rattle.fw_rule.specs.declared.rule.Rule.{Rule}
 use Rattle.fw_rule.specs.declared.rule.Dump.{Dump}
 use Rattle.fw_rule.specs.declared.side.Side.{Side}
 use Rattle.fw_rule.specs.Matching.{known_of, doubt_in}
-use Rattle.closure.specs.Rewriting.{Tree, kind, row_of, shape, items, rules_of, tree}
+use Rattle.closure.specs.Rewriting.{Tree, kind, row_of, shape, to_the_end, items, rules_of, tree}
 use Rattle.closure.proofs.Runs.{says, Ran, Says, Leaves, Through, after_block, ran, settle, expected}
 use Rattle.closure.specs.declared.modes.ActionKind.{ActionKind}
-use Rattle.closure.specs.declared.modes.ActionKind.TheVariants.{GoodVerdict, BadVerdict, GoOn, GoBack, CallTo}
+use Rattle.closure.specs.declared.modes.ActionKind.TheVariants.{GoodVerdict, BadVerdict, GoOn, GoBack, CallTo, GoTo}
 use Rattle.closure.specs.declared.modes.Mode.{Mode}
 use Rattle.closure.specs.declared.modes.Mode.TheVariants.{Hard, Soft}
-use Rattle.closure.proofs.Outcomes.{Outcome, Good, Ends, Bad, or_end, then_rest, or_rest, best_row, best_rules, best}
+use Rattle.closure.proofs.Outcomes.{Outcome, Good, Ends, Bad, or_end, then_rest, or_rest, better, best_row, best_rules, best}
 
 settle_after : (r x : Ran) → settle (after_block r x) ≡ settle (after_block (settle r) (settle x))
 settle_after (Says v) x = refl
@@ -66,6 +67,39 @@ module _ (side : Side) where
   kept Ends = refl
   kept Bad = refl
 
+  gone_hard : (a : Outcome) → settle (after_block (expected side Hard a) Through) ≡ expected side Hard a
+  gone_hard Good = refl
+  gone_hard Ends = refl
+  gone_hard Bad = refl
+
+  gone_soft : (j : ℕ) (a : Outcome) → settle (after_block (expected side (Soft (suc j)) a) Through) ≡ expected side (Soft j) a
+  gone_soft j Good = refl
+  gone_soft j Ends = refl
+  gone_soft zero Bad = refl
+  gone_soft (suc j) Bad = refl
+
+  gone_softest : (a b : Outcome) → expected side (Soft zero) (or_rest a b) ≡ expected side (Soft zero) (better a b)
+  gone_softest Good b = refl
+  gone_softest Ends b = sym (kept b)
+  gone_softest Bad b = refl
+
+  -- what the items of a chain to the end come to
+  abbrev to_end : Outcome → Ran
+  to_end a = settle (after_block (expected side (Soft 1) a) (Leaves 1))
+
+  gone_in_doubt : (mode : Mode) (a b : Outcome) → settle (after_block (expected side (Soft 0) b) (settle (after_block (to_end a) (expected side mode b)))) ≡ expected side mode (better a b)
+  gone_in_doubt mode Good Good = refl
+  gone_in_doubt mode Ends Good = refl
+  gone_in_doubt mode Bad Good = refl
+  gone_in_doubt mode Good Ends = refl
+  gone_in_doubt mode Ends Ends = refl
+  gone_in_doubt mode Bad Ends = refl
+  gone_in_doubt mode Good Bad = refl
+  gone_in_doubt mode Ends Bad = refl
+  gone_in_doubt Hard Bad Bad = refl
+  gone_in_doubt (Soft zero) Bad Bad = refl
+  gone_in_doubt (Soft (suc j)) Bad Bad = refl
+
   after_is : (r x r' x' : Ran) → settle r ≡ r' → settle x ≡ x' → settle (after_block r x) ≡ settle (after_block r' x')
   after_is r x r' x' e q = settle_after r x ∙ rw (e, q) refl
 
@@ -86,10 +120,31 @@ module _ (side : Side) where
     row_missed e false (CallTo c) Hard = rw e refl
     row_missed e false (CallTo c) (Soft j) = rw e refl
     row_missed e true (CallTo c) mode = rw e refl
+    row_missed e false (GoTo c) Hard = rw e refl
+    row_missed e false (GoTo c) (Soft j) = rw e refl
+    row_missed e true (GoTo c) Hard = rw e refl
+    row_missed e true (GoTo c) (Soft zero) = rw e refl
+    row_missed e true (GoTo c) (Soft (suc j)) = rw e refl
 
     module _ (callee_best : ℕ → Outcome) (rest_best : Outcome)
         (callee_is : (c : ℕ) (mode : Mode) → settle (ran h (callee c mode)) ≡ expected side mode (callee_best c))
         (rest_is : (mode : Mode) → settle (ran h (rest mode)) ≡ expected side mode rest_best) where
+      ended : (inner : Tree P) → ran h (to_the_end inner) ≡ after_block (ran h inner) (Leaves 1)
+      ended inner = rw (eval-All h []) refl
+
+      end_is : (c : ℕ) → settle (ran h (to_the_end (callee c (Soft 1)))) ≡ to_end (callee_best c)
+      end_is c =
+          ap settle (ended (callee c (Soft 1)))
+          ∙ after_is (ran h (callee c (Soft 1))) (Leaves 1) (expected side (Soft 1) (callee_best c)) (Leaves 1) (callee_is c (Soft 1)) refl
+
+      gone_later : (c : ℕ) (mode : Mode) →
+          settle (after_block (ran h (rest (Soft 0))) (after_block (ran h (to_the_end (callee c (Soft 1)))) (ran h (rest mode)))) ≡ expected side mode (better (callee_best c) rest_best)
+      gone_later c mode =
+          after_is (ran h (rest (Soft 0))) (after_block (ran h (to_the_end (callee c (Soft 1)))) (ran h (rest mode)))
+          (expected side (Soft 0) rest_best) (settle (after_block (to_end (callee_best c)) (expected side mode rest_best))) (rest_is (Soft 0))
+          (after_is (ran h (to_the_end (callee c (Soft 1)))) (ran h (rest mode)) (to_end (callee_best c)) (expected side mode rest_best) (end_is c) (rest_is mode))
+          ∙ gone_in_doubt mode (callee_best c) rest_best
+
       row_taken : eval_of h k ≡ true → (d : Bool) (what : ActionKind) (mode : Mode) →
           settle (ran h (shape callee k rest mode (row_of side d what mode))) ≡ expected side mode (best_row callee_best rest_best d what)
       row_taken e false GoodVerdict mode = rw e refl
@@ -115,6 +170,15 @@ module _ (side : Side) where
       row_taken e true (CallTo c) mode =
           rw e (after_is (ran h (callee c (Soft 0))) (ran h (rest mode)) (expected side (Soft 0) (callee_best c)) (expected side mode rest_best) (callee_is c (Soft 0)) (rest_is mode)
           ∙ called_in_doubt mode (callee_best c) rest_best)
+      row_taken e false (GoTo c) Hard =
+          rw e (after_is (ran h (callee c Hard)) (Leaves 0) (expected side Hard (callee_best c)) Through (callee_is c Hard) refl ∙ gone_hard (callee_best c))
+      row_taken e false (GoTo c) (Soft j) =
+          rw e (after_is (ran h (callee c (Soft (suc j)))) (Leaves 0) (expected side (Soft (suc j)) (callee_best c)) Through (callee_is c (Soft (suc j))) refl ∙ gone_soft j (callee_best c))
+      row_taken e true (GoTo c) Hard = rw e (gone_later c Hard)
+      row_taken e true (GoTo c) (Soft zero) =
+          rw e (after_is (ran h (callee c (Soft 0))) (ran h (rest (Soft zero))) (expected side (Soft 0) (callee_best c)) (expected side (Soft zero) rest_best) (callee_is c (Soft 0)) (rest_is (Soft zero))
+          ∙ called_in_doubt (Soft zero) (callee_best c) rest_best ∙ gone_softest (callee_best c) rest_best)
+      row_taken e true (GoTo c) (Soft (suc j)) = rw e (gone_later c (Soft (suc j)))
 
   module _ {P : Type 0} (h : P → Bool) where
     by_known : (callee : ℕ → Mode → Tree P) (callee_best : ℕ → Outcome) (k : Expr P) (rest : Mode → Tree P) (rest_best : Outcome) →

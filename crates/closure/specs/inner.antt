@@ -9,3 +9,5 @@ pub mod Ways
 pub mod Skips
 pub mod Ends
 pub mod Steps
+pub mod Moves
+pub mod Tallies

@@ -64,6 +64,20 @@ fn row_items(row: Row, mode: Mode, table: &[Counts], rest: Counts) -> u64
             let called = in_mode(counts, inner);
             called.saturating_add(behind).saturating_add(1)
         }
+        Row::RunThenLeave(target, inner) => {
+            let counts = entry(table, target);
+            let run = in_mode(counts, inner);
+            run.saturating_add(behind).saturating_add(2)
+        }
+        Row::RunLater(target) => {
+            let counts = entry(table, target);
+            let run = in_mode(counts, Mode::Soft(1));
+            let inner = in_mode(rest, Mode::Soft(0));
+            inner
+                .saturating_add(run)
+                .saturating_add(behind)
+                .saturating_add(4)
+        }
     }
 }
 
@@ -120,7 +134,7 @@ fn count_rank<P: Primitive>(
 }
 
 /// The number of items of a chain's tree at all depths. It stops at 2^64 - 1. Nothing is built: the rules of each chain
-/// that is reached are summed up once, a called chain before those that call it.
+/// that is reached are summed up once, a chain before those that lead to it.
 pub fn count_nodes<P: Primitive>(
     alloc: Global,
     dump: &Dump<P>,

@@ -83,6 +83,19 @@ impl Needs {
     {
         self.escapes || self.state
     }
+
+    /// What is needed behind an item that one of the same rule follows.
+    pub(crate) fn before_more(self) -> Needs
+        ensures escapes { result.escapes ≡ self.escapes }
+        ensures past { result.past ≡ true }
+        ensures state { result.state ≡ true }
+    {
+        Needs {
+            past: true,
+            state: true,
+            ..self
+        }
+    }
 }
 
 /// What lies behind items that were passed: what is left of the state there, what doesn't hold there, and the items' escapes. What isn't needed isn't kept.

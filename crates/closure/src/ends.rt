@@ -64,6 +64,8 @@ fn is_quiet(table: &[Ends], row: Row) -> bool
         Row::Skip | Row::Leave(_) | Row::LeaveLater => true,
         Row::Decide(_) => false,
         Row::Run(callee, inner) => makes_none(table, callee, inner),
+        Row::RunThenLeave(target, inner) => makes_none(table, target, inner),
+        Row::RunLater(target) => makes_none(table, target, Mode::Soft(1)),
     }
 }
 
@@ -147,7 +149,7 @@ fn first_table<P: Primitive>(
     Ok(table)
 }
 
-/// The ends of each chain, a called one before those that call it.
+/// The ends of each chain, one before those that lead to it.
 pub(crate) fn all_ends<P: Primitive>(
     alloc: Global,
     dump: &Dump<P>,

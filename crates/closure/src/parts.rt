@@ -18,6 +18,7 @@ pub fn kind_of(side: Side, action: &Action) -> ActionKind
         (_, Action::Pass) => ActionKind::GoOn,
         (_, Action::Back) => ActionKind::GoBack,
         (_, Action::Call(callee)) => ActionKind::CallTo(*callee),
+        (_, Action::Goto(target)) => ActionKind::GoTo(*target),
         (_, Action::Other(_)) => ActionKind::GoOn,
     }
 }

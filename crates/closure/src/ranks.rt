@@ -3,7 +3,7 @@ ghost use Rattle.closure.specs.inner.Ranks.{HasRank};
 
 use chain_graph::Ranked;
 
-/// The number of chains on the longest call path from a chain that has a rank.
+/// The number of chains on the longest path of calls and gotos from a chain that has a rank.
 pub(crate) fn rank_of(ranked: &Ranked, chain: u32) -> u32
     requires { HasRank ranked.now chain }
     ensures { slice_get ranked.now.ranks chain ≡ Some (Some result) }

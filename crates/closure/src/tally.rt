@@ -1,8 +1,8 @@
-ghost use Rattle.std.specs.Prelude.{◌≡◌, ◌+◌, ◌++◌, OnOk};
+ghost use Rattle.std.specs.Prelude.{◌≡◌, ◌+◌, ◌++◌, [], OnOk};
 ghost use Rattle.closure.specs.inner.Counts.{capped};
 ghost use Rattle.closure.specs.inner.Ways as spec;
 
-use std::alloc::AllocError;
+use std::alloc::{AllocError, Global};
 
 /// Leaves `up` blocks more than the one around it, under a condition of so many literals. The number stops at 2^64 - 1.
 #[derive(Clone, Copy, Debug, PartialEq, Eq)]
@@ -17,6 +17,19 @@ pub(crate) struct Tally {
     pub past: u64,
     pub total: u64,
     pub ways: Vec<Way>,
+}
+
+/// Of no items.
+pub(crate) fn no_tally(alloc: Global) -> Tally
+    ensures past { result.past ≡ 0 }
+    ensures total { result.total ≡ 0 }
+    ensures ways { result.ways.items ≡ [] }
+{
+    Tally {
+        past: 0,
+        total: 0,
+        ways: Vec::new(alloc),
+    }
 }
 
 /// Adds a way out, if it leaves more than its own block.

@@ -1,13 +1,16 @@
-ghost use Rattle.std.specs.Prelude.{◌≡◌, ◌<◌, ◌+◌, ◌-◌, ◌^◌, [], min, map, IfOk};
+ghost use Rattle.std.specs.Prelude.{◌≡◌, ◌<◌, ◌+◌, ◌-◌, ◌^◌, [], min, map, IfOk, OnOk};
+ghost use Rattle.match_expr.specs.declared.expr.Expr.{Expr};
 ghost use Rattle.match_expr.specs.Meaning.{literal_count};
 ghost use Rattle.fw_rule.specs.Matching.{known_of};
-ghost use Rattle.fw_rule.specs.Walk.{InSettled, Within};
+ghost use Rattle.fw_rule.specs.Walk.{InSettled, RuleOf, Within};
 ghost use Rattle.closure.specs.Checked.{IsRankedWithPolicy};
 ghost use Rattle.closure.specs.inner.Counts.{capped};
 ghost use Rattle.closure.specs.inner.Totals.{lit_count, total_of, with_literals};
 ghost use Rattle.closure.specs.inner.Ways.{way_of};
-ghost use Rattle.closure.specs.Rewriting.{chain_tree};
-ghost use Rattle.closure.specs.inner.Items.{level, items_from};
+ghost use Rattle.closure.specs.Rewriting.{Tree, Block, chain_tree, to_the_end};
+ghost use Rattle.closure.specs.inner.Items.{level, items_from, items_with};
+ghost use Rattle.closure.specs.inner.Moves.{then_leave};
+ghost use Rattle.closure.specs.inner.Tallies.{Counts};
 ghost use Rattle.closure.specs.inner.Skips.{AreSkips};
 ghost use Rattle.closure.specs.Flat.{escapes, flat_list, literals_in};
 ghost use Rattle.closure.specs.Stream.{stream};
@@ -17,7 +20,8 @@ use crate::parts::kind_of;
 use crate::ranks::rank_of;
 use crate::rows::row_of;
 use crate::skips::{Skips, first_item, skips_of};
-use crate::tally::Tally;
+use crate::streaming::{led_to, softest};
+use crate::tally::{Tally, no_tally};
 use chain_graph::Ranked;
 use fw_rule::{Dump, Lit, Rule, Side, doubtful};
 use match_expr::Primitive;
@@ -44,7 +48,152 @@ fn known_literals<P: Primitive>(rule: &Rule<P>) -> u64
     count
 }
 
+/// Counts a block of these rules under an expression of so many literals.
+#[cycle(counting)]
+fn count_block<P: Primitive>(
+    alloc: Global,
+    dump: &Dump<P>,
+    side: Side,
+    table: &[Skips],
+    block: RulesFrom,
+    literals: u64,
+    around: u64,
+    tally: &mut Tally,
+) -> Result<(), AllocError>
+    requires settled { InSettled dump.now block.chain }
+    requires within { Within dump.now block.depth block.chain }
+    requires room { level block.mode + block.depth < 2 ^ 32 }
+    requires table { AreSkips side dump.now table.now }
+    ensures { OnOk result ((e : Expr P) → literals ≡ capped (literal_count e) → (behind : Tree P) → Counts around (Block e (items_from side dump.now block) behind) behind tally.old tally.new) }
+{
+    let whole = around.saturating_add(tally.past).saturating_add(literals);
+    let inner = count_from(alloc, dump, side, table, block, whole)?;
+    tally.run(literals, &inner)?;
+    Ok(())
+}
+
+/// Counts such a block and a way out of the block around it.
+#[cycle(counting)]
+fn count_and_leave<P: Primitive>(
+    alloc: Global,
+    dump: &Dump<P>,
+    side: Side,
+    table: &[Skips],
+    block: RulesFrom,
+    literals: u64,
+    around: u64,
+    tally: &mut Tally,
+) -> Result<(), AllocError>
+    requires settled { InSettled dump.now block.chain }
+    requires within { Within dump.now block.depth block.chain }
+    requires room { level block.mode + block.depth < 2 ^ 32 }
+    requires table { AreSkips side dump.now table.now }
+    ensures { OnOk result ((e : Expr P) → literals ≡ capped (literal_count e) → (behind : Tree P) → Counts around (then_leave e (items_from side dump.now block) behind) behind tally.old tally.new) }
+{
+    count_block(alloc, dump, side, table, block, literals, around, tally)?;
+    tally.leave(literals, 0)?;
+    Ok(())
+}
+
+/// What is counted of a chain to its end: of its rules as a block, behind which the block around it is left.
+#[cycle(counting)]
+fn count_to_the_end<P: Primitive>(
+    alloc: Global,
+    dump: &Dump<P>,
+    side: Side,
+    table: &[Skips],
+    from: RulesFrom,
+    around: u64,
+) -> Result<Tally, AllocError>
+    requires settled { InSettled dump.now from.chain }
+    requires within { Within dump.now from.depth from.chain }
+    requires room { level from.mode + from.depth < 2 ^ 32 }
+    requires table { AreSkips side dump.now table.now }
+    ensures total { IfOk result (λ tally. tally.total ≡ capped (total_of (stream with_literals around (to_the_end (items_from side dump.now from))))) }
+    ensures ways { IfOk result (λ tally. tally.ways.items ≡ map way_of (escapes [] (to_the_end (items_from side dump.now from)))) }
+{
+    let mut tally = no_tally(alloc);
+    count_block(alloc, dump, side, table, from, 0, around, &mut tally)?;
+    tally.leave(0, 1)?;
+    Ok(tally)
+}
+
+/// Counts a block under an expression in which a chain is gone through to its end.
+#[cycle(counting)]
+fn count_end_block<P: Primitive>(
+    alloc: Global,
+    dump: &Dump<P>,
+    side: Side,
+    table: &[Skips],
+    block: RulesFrom,
+    literals: u64,
+    around: u64,
+    tally: &mut Tally,
+) -> Result<(), AllocError>
+    requires settled { InSettled dump.now block.chain }
+    requires within { Within dump.now block.depth block.chain }
+    requires room { level block.mode + block.depth < 2 ^ 32 }
+    requires table { AreSkips side dump.now table.now }
+    ensures { OnOk result ((e : Expr P) → literals ≡ capped (literal_count e) → (behind : Tree P) → Counts around (Block e (to_the_end (items_from side dump.now block)) behind) behind tally.old tally.new) }
+{
+    let whole = around.saturating_add(tally.past).saturating_add(literals);
+    let inner = count_to_the_end(alloc, dump, side, table, block, whole)?;
+    tally.run(literals, &inner)?;
+    Ok(())
+}
+
+/// Counts a rule, which stands before the others.
+#[cycle(counting)]
+fn count_rule<P: Primitive>(
+    alloc: Global,
+    dump: &Dump<P>,
+    side: Side,
+    table: &[Skips],
+    behind: RulesFrom,
+    rule: &Rule<P>,
+    around: u64,
+    tally: &mut Tally,
+) -> Result<(), AllocError>
+    requires settled { InSettled dump.now behind.chain }
+    requires within { Within dump.now behind.depth behind.chain }
+    requires room { level behind.mode + behind.depth < 2 ^ 32 }
+    requires table { AreSkips side dump.now table.now }
+    requires rule { RuleOf dump.now behind.chain rule.now }
+    ensures { OnOk result (Counts around (items_with side dump.now rule.now behind) (items_from side dump.now behind) tally.old tally.new) }
+{
+    let literals = known_literals(rule);
+    let kind = kind_of(side, &rule.action);
+    match row_of(side, kind, doubtful(rule), behind.mode) {
+        Row::Skip => {}
+        Row::Decide(_accept) => {
+            let whole = around.saturating_add(tally.past).saturating_add(literals);
+            tally.total = tally.total.saturating_add(whole);
+        }
+        Row::Leave(n) => tally.leave(literals, n)?,
+        Row::LeaveLater => {
+            let rest = softest(behind);
+            count_and_leave(alloc, dump, side, table, rest, literals, around, tally)?;
+        }
+        Row::Run(callee, mode) => {
+            let called = led_to(behind, callee, mode);
+            count_block(alloc, dump, side, table, called, literals, around, tally)?;
+        }
+        Row::RunThenLeave(target, mode) => {
+            let gone = led_to(behind, target, mode);
+            count_and_leave(alloc, dump, side, table, gone, literals, around, tally)?;
+        }
+        Row::RunLater(target) => {
+            let rest = softest(behind);
+            count_block(alloc, dump, side, table, rest, literals, around, tally)?;
+            let gone = led_to(behind, target, Mode::Soft(1));
+            count_end_block(alloc, dump, side, table, gone, literals, around, tally)?;
+        }
+    }
+    Ok(())
+}
+
 /// What is counted of these rules, where `around` literals stand around them. A rule that gives no item isn't looked at.
+#[cycle(counting)]
 fn count_from<P: Primitive>(
     alloc: Global,
     dump: &Dump<P>,
@@ -61,41 +210,15 @@ fn count_from<P: Primitive>(
     ensures ways { IfOk result (λ tally. tally.ways.items ≡ map way_of (escapes [] (items_from side dump.now from))) }
 {
     let rules = dump.chains.as_slice()[from.chain as usize].rules.as_slice();
-    let mut tally = Tally {
-        past: 0,
-        total: 0,
-        ways: Vec::new(alloc),
-    };
+    let mut tally = no_tally(alloc);
     let mut next = first_item(dump, side, table, from.chain, from.first, from.mode);
     while next < rules.len() {
         let rule = &rules[next];
-        let literals = known_literals(rule);
-        let whole = around.saturating_add(tally.past).saturating_add(literals);
-        match row_of(side, kind_of(side, &rule.action), doubtful(rule), from.mode) {
-            Row::Skip => {}
-            Row::Decide(_accept) => tally.total = tally.total.saturating_add(whole),
-            Row::Leave(n) => tally.leave(literals, n)?,
-            Row::LeaveLater => {
-                let behind = RulesFrom {
-                    first: next + 1,
-                    mode: Mode::Soft(0),
-                    ..from
-                };
-                let inner = count_from(alloc, dump, side, table, behind, whole)?;
-                tally.run(literals, &inner)?;
-                tally.leave(literals, 0)?;
-            }
-            Row::Run(callee, mode) => {
-                let called = RulesFrom {
-                    chain: callee,
-                    first: 0,
-                    depth: from.depth - 1,
-                    mode,
-                };
-                let inner = count_from(alloc, dump, side, table, called, whole)?;
-                tally.run(literals, &inner)?;
-            }
-        }
+        let behind = RulesFrom {
+            first: next + 1,
+            ..from
+        };
+        count_rule(alloc, dump, side, table, behind, rule, around, &mut tally)?;
         next = first_item(dump, side, table, from.chain, next + 1, from.mode);
     }
     Ok(tally)

@@ -1,43 +1,44 @@
-//! Tries the rewriting on random small dumps: the closed list of each side has to accept exactly the packets that may, or must, be accepted, as walks for each meaning tell.
+//! Reads small dumps, a line each, and writes a line for each: which packets may and must be accepted by its closed lists, and the numbers of items of both sides.
 //!
-//! The words are the number of dumps and a start. The same start gives the same dumps.
+//! `must` is a packet that both lists accept, `may` one that the upper list alone accepts, and `never` one that neither does. `wrong` is one on which the lists and walks under every meaning
+//! differ. A dump whose lists are refused for their size has its numbers alone.
 #![tactic(auto)]
 
 mod asking;
 mod dumps;
-#[cfg(test)]
-mod tests;
+mod reading;
 mod trial;
 
-use crate::trial::differences;
-use std::alloc::AllocError;
-use std::env;
+use crate::reading::dump;
+use crate::trial::answer;
+use closure::FlatFault;
+use std::alloc::Global;
+use std::io;
 use std::process::ExitCode;
 
-fn number(word: Option<&String>) -> Option<u32> {
-    let word = word?;
-    word.as_str().parse::<u32>().ok()
+/// What is written for a line.
+fn described(alloc: Global, line: &str) -> Result<String, FlatFault> {
+    match dump(alloc, line)? {
+        Some(dump) => answer(alloc, &dump),
+        None => Ok(String::from_str(alloc, "no dump")?),
+    }
 }
 
-fn words(rt: &HostRuntime) -> Result<Vec<String>, AllocError> {
-    let Ok(args) = env::args(rt) else {
-        return Ok(Vec::new(rt.alloc()));
-    };
-    args.collect(rt.alloc())
+/// Writes a line for each line that is read; false where memory ran out.
+fn all_described(rt: &HostRuntime) -> io::Result<bool> {
+    for line in rt.lines(rt.alloc()) {
+        let Ok(text) = described(rt.alloc(), line?.as_str()) else {
+            return Ok(false);
+        };
+        println!(rt; "{text}")?;
+    }
+    Ok(true)
 }
 
 fn main(rt: HostRuntime) -> ExitCode {
-    let Ok(words) = words(&rt) else {
-        return ExitCode::from(12);
-    };
-    let (Some(count), Some(start)) = (number(words.get(1)), number(words.get(2))) else {
-        return ExitCode::from(1);
-    };
-    let Ok(differences) = differences(rt.alloc(), count, start) else {
-        return ExitCode::from(12);
-    };
-    match println!(rt; "{count} dumps, {differences} differences") {
-        Ok(()) => ExitCode::from(0),
+    match all_described(&rt) {
+        Ok(true) => ExitCode::from(0),
+        Ok(false) => ExitCode::from(12),
         Err(_) => ExitCode::from(3),
     }
 }

@@ -1,12 +1,14 @@
 ghost use Rattle.std.specs.Prelude.{◌≡◌, ◌==◌};
+ghost use Rattle.closure.specs.Checked.{IsRankedWithPolicy};
 ghost use Rattle.match_expr.specs.FirstMatch.{first_match};
 
 use crate::asking::checked;
-use crate::dumps::{Is, PACKETS, Random, random_dump};
-use closure::{FlatFault, flat};
-use fw_rule::{Dump, Side, Verdict};
-use match_expr::FlatRule;
-use reckoner::reckon;
+use crate::dumps::{Is, PACKETS};
+use chain_graph::Ranked;
+use closure::{FlatFault, count_nodes, flat};
+use fw_rule::{Dump, Side, Verdict, policy_of};
+use match_expr::{FlatRule, List};
+use reckoner::{Reckoned, reckon};
 use std::alloc::Global;
 
 /// What the first rule answers whose expression holds of the packet.
@@ -22,44 +24,60 @@ fn first_verdict(rules: &[FlatRule<Is>], p: u8) -> Option<bool>
 }
 
 /// Whether the list, with the policy at its end, accepts the packet.
-pub(crate) fn accepts(rules: &[FlatRule<Is>], policy: Option<Verdict>, p: u8) -> bool {
+fn accepts(rules: &[FlatRule<Is>], policy: Option<Verdict>, p: u8) -> bool {
     match first_verdict(rules, p) {
         Some(accept) => accept,
         None => policy == Some(Verdict::Accept),
     }
 }
 
-/// Whether the lists of both sides accept exactly the packets that may and that must be accepted in the first chain.
-pub(crate) fn agrees(alloc: Global, dump: &Dump<Is>) -> Result<bool, FlatFault> {
-    let Some(ranked) = checked(alloc, dump)? else {
-        return Ok(false);
-    };
-    let Some(chain) = dump.chains.as_slice().first() else {
-        return Ok(false);
-    };
-    let upper = flat(alloc, dump, &ranked, 0, Side::Upper)?;
-    let lower = flat(alloc, dump, &ranked, 0, Side::Lower)?;
-    for p in 0..PACKETS {
-        let reckoned = reckon(alloc, dump, 0, &p)?;
-        if accepts(upper.as_slice(), chain.policy, p) != reckoned.may {
-            return Ok(false);
-        }
-        if accepts(lower.as_slice(), chain.policy, p) != reckoned.must {
-            return Ok(false);
-        }
+/// The closed list of a side; None where it is refused for its size.
+fn closed(
+    alloc: Global,
+    dump: &Dump<Is>,
+    ranked: &Ranked,
+    side: Side,
+) -> Result<Option<List<FlatRule<Is>>>, FlatFault>
+    requires { IsRankedWithPolicy dump.now 0 ranked.now }
+{
+    match flat(alloc, dump, ranked, 0, side) {
+        Ok(rules) => Ok(Some(rules)),
+        Err(FlatFault::Memory) => Err(FlatFault::Memory),
+        Err(_) => Ok(None),
     }
-    Ok(true)
 }
 
-/// Of so many random dumps, those on which the lists and the walks differ.
-pub(crate) fn differences(alloc: Global, count: u32, start: u32) -> Result<u32, FlatFault> {
-    let mut random = Random::new(start);
-    let mut differences = 0u32;
-    for _ in 0..count {
-        let dump = random_dump(alloc, &mut random)?;
-        if !agrees(alloc, &dump)? {
-            differences = differences.saturating_add(1);
+/// The word for what the lists say of a packet, or `wrong` where the walks say something else.
+fn word(listed: Reckoned, walked: Reckoned) -> &'static str {
+    match (listed == walked, listed.may, listed.must) {
+        (true, true, true) => "must",
+        (true, true, false) => "may",
+        (true, false, false) => "never",
+        _ => "wrong",
+    }
+}
+
+/// What is written for a dump.
+pub(crate) fn answer(alloc: Global, dump: &Dump<Is>) -> Result<String, FlatFault> {
+    let Some(ranked) = checked(alloc, dump)? else {
+        return Ok(String::from_str(alloc, "not asked")?);
+    };
+    let most = count_nodes(alloc, dump, &ranked, 0, Side::Upper)?;
+    let least = count_nodes(alloc, dump, &ranked, 0, Side::Lower)?;
+    let mut line = String::new(alloc);
+    let upper = closed(alloc, dump, &ranked, Side::Upper)?;
+    let lower = closed(alloc, dump, &ranked, Side::Lower)?;
+    if let (Some(upper), Some(lower)) = (upper, lower) {
+        let policy = policy_of(dump, 0);
+        for p in 0..PACKETS {
+            let listed = Reckoned {
+                may: accepts(upper.as_slice(), policy, p),
+                must: accepts(lower.as_slice(), policy, p),
+            };
+            line.push_str(word(listed, reckon(alloc, dump, 0, &p)?))?;
+            line.push(' ')?;
         }
     }
-    Ok(differences)
+    line.push_str(&format!(in alloc; "{most} {least}")?)?;
+    Ok(line)
 }

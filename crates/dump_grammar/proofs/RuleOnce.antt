@@ -7,6 +7,7 @@ use Rattle.fw_rule.specs.declared.rule.Action.{Action}
 use Rattle.fw_rule.specs.declared.rule.Lit.{Lit}
 use Rattle.primitives.specs.declared.prim.Prim_.{Prim_}
 use Rattle.dump_grammar.specs.declared.rule.RuleLine.{RuleLine}
+use Rattle.dump_grammar.specs.declared.rule.Target.{Target}
 use Rattle.dump_grammar.specs.ChainLines.{IsCounter, is_among, passing, target_words}
 use Rattle.dump_grammar.specs.Groups.{AreGroups, EndsGroups, Group, Base, Module, ModuleOption, all_differ, base_of, current_after, is_known_module}
 use Rattle.dump_grammar.specs.Lines.{Text, Word, bare}
@@ -84,6 +85,7 @@ action_is names name following Action.Back is = subst (λ (t : Text). Action.Bac
 action_is names name following Action.Pass is =
     ap (λ (t : Bool). if t then Action.Pass else if bytes_eq (codes "ACCEPT") name then Action.Accept else if bytes_eq (codes "DROP") name then Action.Drop else if bytes_eq (codes "REJECT") name then Action.Drop else if bytes_eq (codes "RETURN") name then Action.Back else other_of (user_chain names name) name) (sym is)
 action_is names name following (Action.Call k) (other, number, end) = ap (λ (n : Option ℕ). other_of n name) (sym number) ∙ no_word names name other
+action_is names name following (Action.Goto k) is = absurd is
 action_is names name following (Action.Other shown) (other, number, is) = ap Action.Other is ∙ ap (λ (n : Option ℕ). other_of n name) (sym number) ∙ no_word names name other
 
 same_words : (n m : Word) (f g : List Word) → bare (codes "-j") ∷ n ∷ f ≡ bare (codes "-j") ∷ m ∷ g → n ≡ m
@@ -92,23 +94,46 @@ same_words n m f g e = cc
 jump_no_goto : (n m : Word) (f g : List Word) → bare (codes "-j") ∷ n ∷ f ≡ bare (codes "-g") ∷ m ∷ g → ⊥
 jump_no_goto n m f g e = differ (codes "-j") (codes "-g") (codes "-j") refl refl (ap (λ (w : Word). w.text) (let h : bare (codes "-j") ≡ bare (codes "-g") = cc in h))
 
-pub target_once : (names : List Text) (words : List Word) (a b : Action) → IsTarget names words a → IsTarget names words b → a ≡ b
-target_once names words a b (inl (e, p)) (inl (f, q)) = p ∙ sym q
-target_once names words a b (inl (e, p)) (inr (inl (n, f, (g, jump)))) = let h = sym e ∙ g in cc
-target_once names words a b (inl (e, p)) (inr (inr (n, (f, q)))) = let h = sym e ∙ f in cc
-target_once names words a b (inr (inl (n, f, (e, jump)))) (inl (g, q)) = let h = sym g ∙ e in cc
-target_once names words a b (inr (inl (n, f, (e, jump)))) (inr (inl (m, g, (h, jump')))) =
+same_goto : (n m : Word) → bare (codes "-g") ∷ n ∷ [] ≡ bare (codes "-g") ∷ m ∷ [] → n ≡ m
+same_goto n m e = cc
+
+number_once : (names : List Text) (n m : Word) (a b : Option ℕ) → n ≡ m → user_chain names n.text ≡ a → user_chain names m.text ≡ b → a ≡ b
+number_once names n m a b e p q = sym p ∙ ap (λ (w : Word). user_chain names w.text) e ∙ q
+
+action_once : (names : List Text) (words : List Word) (a b : Action) → IsTarget names words (Target.Does a) → IsTarget names words (Target.Does b) → a ≡ b
+action_once names words a b (inl (e, p)) (inl (f, q)) = p ∙ sym q
+action_once names words a b (inl (e, p)) (inr (inl (n, f, (g, jump)))) = let h = sym e ∙ g in cc
+action_once names words a b (inl (e, p)) (inr (inr (n, k, (f, u, q)))) = let h = sym e ∙ f in cc
+action_once names words a b (inr (inl (n, f, (e, jump)))) (inl (g, q)) = let h = sym g ∙ e in cc
+action_once names words a b (inr (inl (n, f, (e, jump)))) (inr (inl (m, g, (h, jump')))) =
     let same = same_words n m f g (sym e ∙ h) in
     action_is names n.text f a jump ∙ ap (λ (w : Word). action_of names w.text) same ∙ sym (action_is names m.text g b jump')
-target_once names words a b (inr (inl (n, f, (e, jump)))) (inr (inr (m, (g, q)))) = absurd (jump_no_goto n m f [] (sym e ∙ g))
-target_once names words a b (inr (inr (n, (e, p)))) (inl (g, q)) = let h = sym g ∙ e in cc
-target_once names words a b (inr (inr (n, (e, p)))) (inr (inl (m, g, (f, jump)))) = absurd (jump_no_goto m n g [] (sym f ∙ e))
-target_once names words a b (inr (inr (n, (e, p)))) (inr (inr (m, (g, q)))) = p ∙ sym q
+action_once names words a b (inr (inl (n, f, (e, jump)))) (inr (inr (m, k, (g, u, q)))) = absurd (jump_no_goto n m f [] (sym e ∙ g))
+action_once names words a b (inr (inr (n, k, (e, u, p)))) (inl (g, q)) = let h = sym g ∙ e in cc
+action_once names words a b (inr (inr (n, k, (e, u, p)))) (inr (inl (m, g, (f, jump)))) = absurd (jump_no_goto m n g [] (sym f ∙ e))
+action_once names words a b (inr (inr (n, k, (e, u, p)))) (inr (inr (m, j, (g, v, q)))) =
+    let number : Some k ≡ Some j = number_once names n m (Some k) (Some j) (same_goto n m (sym e ∙ g)) u v in
+    let same : k ≡ j = cc in
+    p ∙ ap Action.Goto same ∙ sym q
 
-pub target_ends : (names : List Text) (words : List Word) (a : Action) → IsTarget names words a → EndsGroups words
-target_ends names words a (inl (e, p)) = subst EndsGroups (sym e) tt
-target_ends names words a (inr (inl (n, f, (e, jump)))) = subst EndsGroups (sym e) (inl refl)
-target_ends names words a (inr (inr (n, (e, p)))) = subst EndsGroups (sym e) (inr refl)
+-- no words are a target with an action and undefined
+defined_once : (names : List Text) (words : List Word) (a : Action) → IsTarget names words (Target.Does a) → IsTarget names words Target.Undefined → ⊥
+defined_once names words a (inl (e, p)) (m, (g, v)) = let h = sym e ∙ g in cc
+defined_once names words a (inr (inl (n, f, (e, jump)))) (m, (g, v)) = jump_no_goto n m f [] (sym e ∙ g)
+defined_once names words a (inr (inr (n, k, (e, u, p)))) (m, (g, v)) =
+    let number : Some k ≡ None = number_once names n m (Some k) None (same_goto n m (sym e ∙ g)) u v in cc
+
+pub target_once : (names : List Text) (words : List Word) (a b : Target) → IsTarget names words a → IsTarget names words b → a ≡ b
+target_once names words (Target.Does a) (Target.Does b) x y = ap Target.Does (action_once names words a b x y)
+target_once names words (Target.Does a) Target.Undefined x y = absurd (defined_once names words a x y)
+target_once names words Target.Undefined (Target.Does b) x y = absurd (defined_once names words b y x)
+target_once names words Target.Undefined Target.Undefined x y = refl
+
+pub target_ends : (names : List Text) (words : List Word) (t : Target) → IsTarget names words t → EndsGroups words
+target_ends names words (Target.Does a) (inl (e, p)) = subst EndsGroups (sym e) tt
+target_ends names words (Target.Does a) (inr (inl (n, f, (e, jump)))) = subst EndsGroups (sym e) (inl refl)
+target_ends names words (Target.Does a) (inr (inr (n, k, (e, u, p)))) = subst EndsGroups (sym e) (inr refl)
+target_ends names words Target.Undefined (n, (e, p)) = subst EndsGroups (sym e) (inr refl)
 
 module _ {W : ℕ} (Reads : Text → ℕ → Type 0) (one_net : HasOneNet Reads W) (one_range : HasOneRange Reads) (groups : List Group) (apart : all_differ (base_of groups) ≡ true) where
   literals_once : (gs : List Group) (ls ms : List (Lit (Prim_ W))) → AreLiterals Reads groups gs ls → AreLiterals Reads groups gs ms → ls ≡ ms
@@ -129,7 +154,7 @@ pub record HasParts {W : ℕ} (Reads : Text → ℕ → Type 0) (names : List Te
   pub chain_is : chain ≡ rule.chain
   pub once : all_differ (base_of groups) ≡ true
   pub literals : AreLiterals Reads groups groups rule.literals
-  pub targeted : IsTarget names target rule.action
+  pub targeted : IsTarget names target rule.target
 
 module _ {W : ℕ} (Reads : Text → ℕ → Type 0) (names : List Text) (words : List Word) where
   pub parts_of : (chain : Text) (rest target : List Word) (groups : List Group) (rule : RuleLine W) → IsRuleHead words chain rest → AreGroups None rest groups target → EndsGroups target
@@ -137,25 +162,25 @@ module _ {W : ℕ} (Reads : Text → ℕ → Type 0) (names : List Text) (words 
   parts_of chain rest target groups rule head grouped ends is =
       let begins = head_once words chain rule.chain rest is.rest head is.head in
       let its = subst (λ (ws : List Word). AreGroups None ws is.groups is.target) (sym begins.1) is.grouped in
-      let same = one_division_of None rest groups is.groups target is.target grouped ends its (target_ends names is.target rule.action is.targeted) in
+      let same = one_division_of None rest groups is.groups target is.target grouped ends its (target_ends names is.target rule.target is.targeted) in
       record {
         chain_is = begins.0;
         once = subst (λ (gs : List Group). all_differ (base_of gs) ≡ true) (sym same.0) is.once;
         literals = subst (λ (gs : List Group). AreLiterals Reads gs gs rule.literals) (sym same.0) is.literals;
-        targeted = subst (λ (ws : List Word). IsTarget names ws rule.action) (sym same.1) is.targeted;
+        targeted = subst (λ (ws : List Word). IsTarget names ws rule.target) (sym same.1) is.targeted;
       }
 
-same_rule : {W : ℕ} (a b : RuleLine W) → a.chain ≡ b.chain → a.literals ≡ b.literals → a.action ≡ b.action → a ≡ b
-same_rule a b e f g = λ i. record { chain = e i; literals = f i; action = g i }
+same_rule : {W : ℕ} (a b : RuleLine W) → a.chain ≡ b.chain → a.literals ≡ b.literals → a.target ≡ b.target → a ≡ b
+same_rule a b e f g = λ i. record { chain = e i; literals = f i; target = g i }
 
 -- the words of a line are one rule at most
 pub one_rule_line : {W : ℕ} (Reads : Text → ℕ → Type 0) (names : List Text) (words : List Word) (a b : RuleLine W) → HasOneNet Reads W → HasOneRange Reads
     → IsRuleLine Reads names words a → IsRuleLine Reads names words b → a ≡ b
 one_rule_line Reads names words a b one_net one_range p q =
-    let parts = parts_of Reads names words a.chain p.rest p.target p.groups b p.head p.grouped (target_ends names p.target a.action p.targeted) q in
+    let parts = parts_of Reads names words a.chain p.rest p.target p.groups b p.head p.grouped (target_ends names p.target a.target p.targeted) q in
     same_rule a b parts.chain_is
     (literals_once Reads one_net one_range p.groups p.once p.groups a.literals b.literals p.literals parts.literals)
-    (target_once names p.target a.action b.action p.targeted parts.targeted)
+    (target_once names p.target a.target b.target p.targeted parts.targeted)
 
 modules_few : (W : ℕ) (name : Text) (gs : List Group) → length (modules_literals {W = W} name gs) ≤ 1
 modules_few W name gs = by_cases (is_known_module name || option_follows gs)

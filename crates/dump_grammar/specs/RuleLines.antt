@@ -22,4 +22,4 @@ module _ {W : ℕ} (Reads : Text → ℕ → Type 0) (names : List Text) where
     pub grouped : AreGroups None rest groups target
     pub once : all_differ (base_of groups) ≡ true
     pub literals : AreLiterals Reads groups groups rule.literals
-    pub targeted : IsTarget names target rule.action
+    pub targeted : IsTarget names target rule.target

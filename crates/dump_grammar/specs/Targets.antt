@@ -2,6 +2,7 @@
 use Rattle.std.specs.Prelude.{ℕ, ◌≡◌, ◌⊎◌, true, false, List, [], ◌∷◌, Option, Some, None, position, codes, if◌then◌else◌}
 use Rattle.std.specs.Str.{bytes_eq}
 use Rattle.fw_rule.specs.declared.rule.Action.{Action}
+use Rattle.dump_grammar.specs.declared.rule.Target.{Target}
 use Rattle.dump_grammar.specs.Lines.{Text, Word, bare}
 use Rattle.dump_grammar.specs.ChainLines.{is_among, built_in, passing, target_words}
 
@@ -22,14 +23,18 @@ IsJump names name following Action.Back = (name ≡ codes "RETURN") × (followin
 IsJump names name following Action.Pass = is_among passing name ≡ true
 IsJump names name following (Action.Call k) =
     (is_among target_words name ≡ false) × (user_chain names name ≡ Some k) × (following ≡ [])
+IsJump names name following (Action.Goto k) = ⊥
 IsJump names name following (Action.Other shown) =
     (is_among target_words name ≡ false) × (user_chain names name ≡ None) × (shown ≡ name)
 
--- the words are a target with this action: none at all, `-j NAME` and what may follow, or `-g NAME`, which isn't
--- supported
-abbrev pub IsTarget : List Text → List Word → Action → Type 0
-IsTarget names words action =
+-- the words are a target: none at all, `-j NAME` and what may follow, or `-g NAME` and no more. A goto leads to a
+-- declared chain that isn't built in; without such a chain of its name it is undefined
+abbrev pub IsTarget : List Text → List Word → Target → Type 0
+IsTarget names words (Target.Does action) =
     ((words ≡ []) × (action ≡ Action.Pass))
     ⊎ ((name : Word) × (following : List Word)
     × ((words ≡ bare (codes "-j") ∷ name ∷ following) × IsJump names name.text following action))
-    ⊎ ((name : Word) × ((words ≡ bare (codes "-g") ∷ name ∷ []) × (action ≡ Action.Other (codes "-g"))))
+    ⊎ ((name : Word) × (k : ℕ)
+    × ((words ≡ bare (codes "-g") ∷ name ∷ []) × (user_chain names name.text ≡ Some k) × (action ≡ Action.Goto k)))
+IsTarget names words Target.Undefined =
+    (name : Word) × ((words ≡ bare (codes "-g") ∷ name ∷ []) × (user_chain names name.text ≡ None))

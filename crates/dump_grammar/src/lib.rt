@@ -31,5 +31,5 @@ pub use law::{one_chain_line, one_division, one_rule_line};
 pub use patterns::pattern;
 pub use ports::port_range;
 pub use reading::rule_line;
-pub use rule::RuleLine;
+pub use rule::{RuleLine, Target};
 pub use targets::jump;

@@ -1,4 +1,4 @@
-ghost use Rattle.std.specs.Prelude.{◌≡◌, ◌≤◌, List as Seq, IfSome, IfNone, IfOk, length};
+ghost use Rattle.std.specs.Prelude.{◌≡◌, ◌≤◌, ℕ, Some, None, List as Seq, IfSome, IfNone, IfOk, length};
 ghost use Rattle.std.specs.List.{AllByRecursion};
 ghost use Rattle.fw_rule.specs.declared.rule.Action.{Action as AnAction};
 ghost use Rattle.interval_set.specs.Numbers.{IsWidth};
@@ -7,13 +7,14 @@ ghost use Rattle.dump_grammar.specs.Printable.{IsPrintableLiteral};
 ghost use Rattle.dump_grammar.specs.RuleLines.{IsRuleLine};
 ghost use Rattle.dump_grammar.specs.Targets.{IsTarget, user_chain};
 ghost use Rattle.dump_grammar.specs.declared.rule.RuleLine.{RuleLine as ARule};
+ghost use Rattle.dump_grammar.specs.declared.rule.Target.{Target as ATarget};
 
 use crate::division::groups;
 use crate::heads::rule_head;
 use crate::line_literals::{literals, options_differ};
 use crate::names::is_built_in;
 use crate::pieces::{first_word, is_bare};
-use crate::rule::RuleLine;
+use crate::rule::{RuleLine, Target};
 use crate::targets::jump;
 use addr_text::Family;
 use chain_names::ChainNames;
@@ -31,30 +32,45 @@ fn user_number(names: &ChainNames, name: &[u8]) -> Option<u32>
     names.number(name)
 }
 
-// The action of the words after the groups of a rule line.
-fn target(alloc: Global, words: &[Token], names: &ChainNames) -> Result<Option<Action>, AllocError>
+// What `-g` says of the chain of this number.
+fn goto(number: Option<u32>) -> Target
+    ensures some { (k : ℕ) → number ≡ Some k → result ≡ ATarget.Does (AnAction.Goto k) }
+    ensures none { number ≡ None → result ≡ ATarget.Undefined }
+{
+    match number {
+        Some(chain) => Target::Does(Action::Goto(chain)),
+        None => Target::Undefined,
+    }
+}
+
+// The target of the words after the groups of a rule line.
+fn rule_target(
+    alloc: Global,
+    words: &[Token],
+    names: &ChainNames,
+) -> Result<Option<Target>, AllocError>
     ghost chains: { Seq Text }
     requires { chains ≡ names.now }
-    ensures some { IfOk result (λ o. IfSome o (λ a. IsTarget chains (words_of words.now) a)) }
-    ensures none { IfOk result (λ o. IfNone o ((a : AnAction) → IsTarget chains (words_of words.now) a → ⊥)) }
+    ensures some { IfOk result (λ o. IfSome o (λ t. IsTarget chains (words_of words.now) t)) }
+    ensures none { IfOk result (λ o. IfNone o ((t : ATarget) → IsTarget chains (words_of words.now) t → ⊥)) }
 {
     let Some((option, rest)) = first_word(words) else {
-        return Ok(Some(Action::Pass));
+        return Ok(Some(Target::Does(Action::Pass)));
     };
     let Some((name, following)) = first_word(rest) else {
         return Ok(None);
     };
+    let number = user_number(names, name.text.as_slice());
     if is_bare(option, b"-j") {
-        let number = user_number(names, name.text.as_slice());
-        return jump(alloc, name.text.as_slice(), following, number);
+        let Some(action) = jump(alloc, name.text.as_slice(), following, number)? else {
+            return Ok(None);
+        };
+        return Ok(Some(Target::Does(action)));
     }
-    if !is_bare(option, b"-g") {
-        return Ok(None);
+    if is_bare(option, b"-g") && following.is_empty() {
+        return Ok(Some(goto(number)));
     }
-    if !following.is_empty() {
-        return Ok(None);
-    }
-    Ok(Some(Action::Other(Bytes::of(b"-g".to_vec(alloc)?))))
+    Ok(None)
 }
 
 /// What the words of a rule line say: `-A CHAIN` after an optional counter, groups, and perhaps a target. `names` are
@@ -84,12 +100,12 @@ pub fn rule_line<F: Family<W>, const W: u32>(
     let Some(literals) = literals::<F, W>(alloc, found.as_slice())? else {
         return Ok(None);
     };
-    let Some(action) = target(alloc, end, names)? else {
+    let Some(target) = rule_target(alloc, end, names)? else {
         return Ok(None);
     };
     Ok(Some(RuleLine {
         chain: Bytes::of(chain.to_vec(alloc)?),
         literals: List::of(literals),
-        action,
+        target,
     }))
 }

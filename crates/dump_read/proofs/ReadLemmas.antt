@@ -219,7 +219,7 @@ module _ (W : ℕ) (Reads : Text → ℕ → Type 0)
   read_fault state text lines ReadFault.Memory r ends = tt
 
 module _ {W : ℕ} where
-  -- outside a table at the end, a rule's chain isn't declared
+  -- outside a table at the end, a line is undefined
   pub ends_undefined : (state : State W) (p : Position W) (lines n : ℕ) → state.part ≡ Part.Outside → state.has_filter ≡ true → state.undefined ≡ Some n → Shows state p → EndsWith p lines (ReadFault.UndefinedChain n)
   ends_undefined state (Position.Outside None) lines n part found undefined s = absurd (let d : true ≡ false = sym found ∙ s.1.0 in cc)
   ends_undefined state (Position.Outside (Some (cs, rs))) lines n part found undefined s = (cs, rs, (refl, subst (IsFirstUndeclared cs rs) undefined s.1.1.undefined))

@@ -47,9 +47,9 @@ module _ (W : ℕ) (Reads : Text → ℕ → Type 0) where
         none = finds_none W Reads t.0 None None t.1.1 refl refl;
       }
 
-  -- what stands before the first rule of a chain that isn't declared
+  -- what stands before the first rule that isn't declared
   abbrev pub AllDeclared : List Declared → List (Placed W) → Type 0
-  AllDeclared chains rules = AllByRecursion (λ (placed : Placed W). is_declared W Reads chains placed ≡ true) rules
+  AllDeclared chains rules = AllByRecursion (λ (placed : Placed W). is_declared chains placed ≡ true) rules
 
 module _ {W : ℕ} where
   some_same : (f g : Filter W) → Some f ≡ Some g → f ≡ g
@@ -113,19 +113,19 @@ module _ (W : ℕ) (Reads : Text → ℕ → Type 0)
   whole_and_bad text lines n parted w m =
       none_bad W Reads one_chain one_rule m.lines n m.bad (subst (WellFormed W Reads) (one_lines lines m.lines text parted m.parted) w)
 
-  -- the first rule of a chain that isn't declared is one
+  -- the first rule that isn't declared is one
   first_once : (chains : List Declared) (before other : List (Placed W)) (p q : Placed W) (after more : List (Placed W)) → before ++ p ∷ after ≡ other ++ q ∷ more →
-      AllDeclared W Reads chains before → AllDeclared W Reads chains other → is_declared W Reads chains p ≡ false → is_declared W Reads chains q ≡ false → p ≡ q
+      AllDeclared W Reads chains before → AllDeclared W Reads chains other → is_declared chains p ≡ false → is_declared chains q ≡ false → p ≡ q
   first_once chains [] [] p q after more e a b x y = head_same p q after more e
   first_once chains [] (o ∷ other) p q after more e a b x y =
-      absurd (clash (is_declared W Reads chains p) (ap (is_declared W Reads chains) (head_same p o after (other ++ q ∷ more) e) ∙ b.0) x)
+      absurd (clash (is_declared chains p) (ap (is_declared chains) (head_same p o after (other ++ q ∷ more) e) ∙ b.0) x)
   first_once chains (o ∷ before) [] p q after more e a b x y =
-      absurd (clash (is_declared W Reads chains q) (ap (is_declared W Reads chains) (sym (head_same o q (before ++ p ∷ after) more e)) ∙ a.0) y)
+      absurd (clash (is_declared chains q) (ap (is_declared chains) (sym (head_same o q (before ++ p ∷ after) more e)) ∙ a.0) y)
   first_once chains (o ∷ before) (u ∷ other) p q after more e a b x y =
       first_once chains before other p q after more (tail_same o u (before ++ p ∷ after) (other ++ q ∷ more) e) a.1 b.1 x y
 
-  not_all : (chains : List Declared) (before : List (Placed W)) (p : Placed W) (after : List (Placed W)) → AllDeclared W Reads chains (before ++ p ∷ after) → is_declared W Reads chains p ≡ false → ⊥
-  not_all chains [] p after a x = clash (is_declared W Reads chains p) a.0 x
+  not_all : (chains : List Declared) (before : List (Placed W)) (p : Placed W) (after : List (Placed W)) → AllDeclared W Reads chains (before ++ p ∷ after) → is_declared chains p ≡ false → ⊥
+  not_all chains [] p after a x = clash (is_declared chains p) a.0 x
   not_all chains (o ∷ before) p after a x = not_all chains before p after a.1 x
 
   pub one_dump_of : (text : Text) → HasOneDump W Reads text
@@ -142,7 +142,7 @@ module _ (W : ℕ) (Reads : Text → ℕ → Type 0)
   one_undefined_of text m n x y =
       let e = one_filter text x.chains y.chains (x.before ++ x.placed ∷ x.after) (y.before ++ y.placed ∷ y.after) x.filter_is y.filter_is in
       let there : AllDeclared W Reads x.chains y.before = subst (λ (z : List Declared). AllDeclared W Reads z y.before) (sym e.0) y.declared in
-      let other : is_declared W Reads x.chains y.placed ≡ false = ap (λ (z : List Declared). is_declared W Reads z y.placed) e.0 ∙ y.undeclared in
+      let other : is_declared x.chains y.placed ≡ false = ap (λ (z : List Declared). is_declared z y.placed) e.0 ∙ y.undeclared in
       let same = first_once x.chains x.before y.before x.placed y.placed x.after y.after e.1 x.declared there x.undeclared other in
       sym x.number_is ∙ ap (λ (z : Placed W). z.number) same ∙ y.number_is
 
@@ -150,7 +150,7 @@ module _ (W : ℕ) (Reads : Text → ℕ → Type 0)
   dump_and_undefined text dump n x y =
       let e = one_filter text x.chains y.chains x.rules (y.before ++ y.placed ∷ y.after) x.filter_is y.filter_is in
       let all : AllDeclared W Reads x.chains (y.before ++ y.placed ∷ y.after) = subst (AllDeclared W Reads x.chains) e.1 x.declared in
-      let here : is_declared W Reads x.chains y.placed ≡ false = ap (λ (z : List Declared). is_declared W Reads z y.placed) e.0 ∙ y.undeclared in
+      let here : is_declared x.chains y.placed ≡ false = ap (λ (z : List Declared). is_declared z y.placed) e.0 ∙ y.undeclared in
       not_all x.chains y.before y.placed y.after all here
 
   filter_whole : (text : Text) (c : List Declared) (r : List (Placed W)) (h : HasFilter W Reads text c r) (n : ℕ) → IsMalformed W Reads text n → ⊥

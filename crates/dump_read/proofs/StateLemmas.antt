@@ -1,6 +1,6 @@
 -- What is kept of the lines after one chain more, and after one rule more.
 use Rattle.std.proofs.Common.{ℕ, suc, ◌≡◌, inl, inr, ◌⊎◌, Bool, true, false, not, cond, ◌||◌, None, Some, Option, List, [], ◌∷◌, ◌++◌, get_or, set, map, refl, sym, ap, subst, ◌∙◌, arith, is_some, append_assoc}
-use Rattle.std.specs.Prelude.{filter, position}
+use Rattle.std.specs.Prelude.{filter, position, ◌&&◌, if◌then◌else◌}
 use Rattle.std.specs.List.{AllByRecursion, position_or_len}
 use Rattle.std.specs.Str.{bytes_eq}
 use Rattle.std.proofs.lemmas.Bool.Decides.{nat_tests}
@@ -12,9 +12,9 @@ use Rattle.dump_grammar.specs.declared.chains.Declared.{Declared}
 use Rattle.dump_grammar.specs.ChainLines.{is_among}
 use Rattle.dump_grammar.specs.Groups.{all_differ}
 use Rattle.dump_grammar.specs.Tables.{Placed, names_of}
-use Rattle.dump_grammar.specs.Reads.{rule_of, is_in}
+use Rattle.dump_grammar.specs.Reads.{rule_of, is_in, is_declared, is_defined}
 use Rattle.dump_read.specs.declared.state.State.{State}
-use Rattle.dump_read.specs.inner.States.{has_any, with_rule, IsWritable, IsFirstUndeclared, Keeps}
+use Rattle.dump_read.specs.inner.States.{has_any, with_rule, now_undefined, IsWritable, IsFirstUndeclared, Keeps}
 use Rattle.basics.proofs.Lists.{no_cons}
 use Rattle.basics.proofs.Truths.{clash}
 use Rattle.dump_read.proofs.NameLemmas.{and_left, and_right, or_left, or_right, not_true, same_bytes, bytes_flip, differ_push}
@@ -157,44 +157,45 @@ module _ {W : ℕ} where
   all_push P [] p h q = (q, tt)
   all_push P (r ∷ rs) p h q = (h.0, all_push P rs p h.1 q)
 
-  -- one rule more, of a chain that is declared
-  pub rule_added : (old new : State W) (cs : List Declared) (rs : List (Placed W)) (p : Placed W) (k : ℕ) (d : Chain (Prim_ W)) → Keeps old cs rs → IsWritable p.rule →
-      position (bytes_eq p.rule.chain) old.names ≡ Some k → new.names ≡ old.names → new.chains.items ≡ set old.chains.items k (with_rule (get_or old.chains.items k d) (rule_of p)) →
-      new.has_rules ≡ true → new.undefined ≡ old.undefined → Keeps new cs (rs ++ p ∷ [])
-  rule_added old new cs rs p k d keeps few there names chains ruled undefined =
-      let here : position (bytes_eq p.rule.chain) (names_of cs) ≡ Some k = ap (position (bytes_eq p.rule.chain)) (sym keeps.names) ∙ there in
-      let among : is_among (names_of cs) p.rule.chain ≡ true = among_of (names_of cs) p.rule.chain ∙ ap (λ z. is_some z) here in
+  -- the first rule that isn't declared, with one rule more
+  undefined_more : (cs : List Declared) (rs : List (Placed W)) (p : Placed W) (u : Option ℕ) (b : Bool) → is_declared cs p ≡ b → IsFirstUndeclared cs rs u →
+      IsFirstUndeclared cs (rs ++ p ∷ []) (if is_some u || b then u else Some p.number)
+  undefined_more cs rs p None true is h = all_push (λ (x : Placed W). is_declared cs x ≡ true) rs p h is
+  undefined_more cs rs p None false is h = (rs, p, [], (refl, h, is, refl))
+  undefined_more cs rs p (Some n) b is (before, q, after, h) =
+      (before, q, after ++ p ∷ [], (ap (λ (z : List (Placed W)). z ++ p ∷ []) h.0 ∙ append_assoc before (q ∷ after) (p ∷ []), h.1, h.2, h.3))
+
+  -- what all rules have in common that are added; `number` is that of the rule's chain, if it is declared
+  added : (old new : State W) (cs : List Declared) (rs : List (Placed W)) (p : Placed W) (number : Option ℕ) → Keeps old cs rs → IsWritable p.rule →
+      position (bytes_eq p.rule.chain) old.names ≡ number → new.names ≡ old.names → new.chains.items ≡ map (chain_of (rs ++ p ∷ [])) cs →
+      new.has_rules ≡ true → (new.undefined ≡ now_undefined old.undefined number p.rule.target p.number) → Keeps new cs (rs ++ p ∷ [])
+  added old new cs rs p number keeps few there names chains ruled undefined =
+      let here : position (bytes_eq p.rule.chain) (names_of cs) ≡ number = ap (position (bytes_eq p.rule.chain)) (sym keeps.names) ∙ there in
+      let among : is_among (names_of cs) p.rule.chain ≡ is_some number = among_of (names_of cs) p.rule.chain ∙ ap (λ z. is_some z) here in
       record {
         names = names ∙ keeps.names;
         differ = keeps.differ;
-        dumped = chains ∙ ap (λ (z : List (Chain (Prim_ W))). set z k (with_rule (get_or z k d) (rule_of p))) keeps.dumped ∙ sym (chains_more rs p cs k d keeps.differ here);
+        dumped = chains;
         ruled = ruled ∙ sym (any_push rs p);
-        undefined = subst (IsFirstUndeclared cs (rs ++ p ∷ [])) (sym undefined) (by old.undefined keeps.undefined among);
+        undefined = subst (IsFirstUndeclared cs (rs ++ p ∷ [])) (sym undefined)
+            (undefined_more cs rs p old.undefined (is_some number && is_defined p.rule.target) (ap (λ (z : Bool). z && is_defined p.rule.target) among) keeps.undefined);
         writable = all_push (λ (x : Placed W). IsWritable x.rule) rs p keeps.writable few;
       }
-    where
-      by : (u : Option ℕ) → IsFirstUndeclared cs rs u → is_among (names_of cs) p.rule.chain ≡ true → IsFirstUndeclared cs (rs ++ p ∷ []) u
-      by None h among = all_push (λ (x : Placed W). is_among (names_of cs) x.rule.chain ≡ true) rs p h among
-      by (Some n) (before, q, after, h) among =
-          (before, q, after ++ p ∷ [], (ap (λ (z : List (Placed W)). z ++ p ∷ []) h.0 ∙ append_assoc before (q ∷ after) (p ∷ []), h.1, h.2, h.3))
+
+  -- one rule more, of a chain that is declared
+  pub rule_added : (old new : State W) (cs : List Declared) (rs : List (Placed W)) (p : Placed W) (k : ℕ) (d : Chain (Prim_ W)) → Keeps old cs rs → IsWritable p.rule →
+      position (bytes_eq p.rule.chain) old.names ≡ Some k → new.names ≡ old.names → new.chains.items ≡ set old.chains.items k (with_rule (get_or old.chains.items k d) (rule_of p)) →
+      new.has_rules ≡ true → (new.undefined ≡ now_undefined old.undefined (Some k) p.rule.target p.number) → Keeps new cs (rs ++ p ∷ [])
+  rule_added old new cs rs p k d keeps few there names chains ruled undefined =
+      let here : position (bytes_eq p.rule.chain) (names_of cs) ≡ Some k = ap (position (bytes_eq p.rule.chain)) (sym keeps.names) ∙ there in
+      added old new cs rs p (Some k) keeps few there names
+      (chains ∙ ap (λ (z : List (Chain (Prim_ W))). set z k (with_rule (get_or z k d) (rule_of p))) keeps.dumped ∙ sym (chains_more rs p cs k d keeps.differ here)) ruled undefined
 
   -- one rule more, of a chain that isn't declared
   pub rule_kept : (old new : State W) (cs : List Declared) (rs : List (Placed W)) (p : Placed W) → Keeps old cs rs → IsWritable p.rule →
       position (bytes_eq p.rule.chain) old.names ≡ None → new.names ≡ old.names → new.chains.items ≡ old.chains.items →
-      new.has_rules ≡ true → (new.undefined ≡ cond (is_some old.undefined) old.undefined (Some p.number)) → Keeps new cs (rs ++ p ∷ [])
+      new.has_rules ≡ true → (new.undefined ≡ now_undefined old.undefined None p.rule.target p.number) → Keeps new cs (rs ++ p ∷ [])
   rule_kept old new cs rs p keeps few there names chains ruled undefined =
       let here : position (bytes_eq p.rule.chain) (names_of cs) ≡ None = ap (position (bytes_eq p.rule.chain)) (sym keeps.names) ∙ there in
       let among : is_among (names_of cs) p.rule.chain ≡ false = among_of (names_of cs) p.rule.chain ∙ ap (λ z. is_some z) here in
-      record {
-        names = names ∙ keeps.names;
-        differ = keeps.differ;
-        dumped = chains ∙ keeps.dumped ∙ sym (chains_same rs p cs among);
-        ruled = ruled ∙ sym (any_push rs p);
-        undefined = subst (IsFirstUndeclared cs (rs ++ p ∷ [])) (sym undefined) (by old.undefined keeps.undefined among);
-        writable = all_push (λ (x : Placed W). IsWritable x.rule) rs p keeps.writable few;
-      }
-    where
-      by : (u : Option ℕ) → IsFirstUndeclared cs rs u → is_among (names_of cs) p.rule.chain ≡ false → IsFirstUndeclared cs (rs ++ p ∷ []) (cond (is_some u) u (Some p.number))
-      by None h among = (rs, p, [], (refl, h, among, refl))
-      by (Some n) (before, q, after, h) among =
-          (before, q, after ++ p ∷ [], (ap (λ (z : List (Placed W)). z ++ p ∷ []) h.0 ∙ append_assoc before (q ∷ after) (p ∷ []), h.1, h.2, h.3))
+      added old new cs rs p None keeps few there names (chains ∙ keeps.dumped ∙ sym (chains_same rs p cs among)) ruled undefined

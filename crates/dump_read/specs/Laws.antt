@@ -18,11 +18,11 @@ module _ (W : ℕ) (Reads : Text → ℕ → Type 0) where
   abbrev pub HasOneMalformedLine : Text → Type 0
   HasOneMalformedLine text = (m n : ℕ) → IsMalformed W Reads text m → IsMalformed W Reads text n → m ≡ n
 
-  -- at most one line is the first whose chain isn't declared
+  -- at most one line is the undefined one
   abbrev pub HasOneUndefinedLine : Text → Type 0
   HasOneUndefinedLine text = (m n : ℕ) → IsUndefinedLine W Reads text m → IsUndefinedLine W Reads text n → m ≡ n
 
-  -- a text is no two of these: a dump, malformed, without a filter, with a rule of a chain that isn't declared
+  -- a text is no two of these: a dump, malformed, without a filter, with an undefined line
   pub record ExcludeEachOther (text : Text) : Type 0 where
     pub dump_malformed : (dump : Dump (Prim_ W)) (n : ℕ) → IsDump W Reads text dump → IsMalformed W Reads text n → ⊥
     pub dump_no_filter : (dump : Dump (Prim_ W)) → IsDump W Reads text dump → HasNoFilter W Reads text → ⊥

@@ -13,7 +13,8 @@ pub enum ReadFault {
     /// The text has no table `filter`.
     #[error("no filter table")]
     NoFilter,
-    /// The rule of this line, counted from 1, is the first whose chain isn't declared.
+    /// The rule of this line, counted from 1, is the first whose chain isn't declared, or whose `-g` names no declared user
+    /// chain.
     #[error("line {line}: undefined chain")]
     UndefinedChain { line: u32 },
     /// Memory ran out.

@@ -3,8 +3,8 @@ ghost use Rattle.dump_read.specs.Laws.{EarlyFaultsStay, ExcludeEachOther, Fronts
 
 use addr_text::Family;
 
-/// That a text is at most one dump, and has at most one line that is malformed and one whose chain isn't declared. The
-/// call itself does nothing: its contract is the law.
+/// That a text is at most one dump, and has at most one malformed line and one undefined line. The call itself does
+/// nothing: its contract is the law.
 pub fn one_answer<F: Family<W>, const W: u32>(text: &[u8])
     requires { W ≤ 128 }
     ensures dump { HasOneDump W F.Reads text.now }
@@ -14,8 +14,8 @@ pub fn one_answer<F: Family<W>, const W: u32>(text: &[u8])
     let _ = text;
 }
 
-/// That a text is no two of these: a dump, malformed, without a filter, with a rule of a chain that isn't declared. The
-/// call itself does nothing.
+/// That a text is no two of these: a dump, malformed, without a filter, with an undefined line. The call itself does
+/// nothing.
 pub fn one_kind<F: Family<W>, const W: u32>(text: &[u8])
     requires { W ≤ 128 }
     ensures { ExcludeEachOther W F.Reads text.now }

@@ -18,8 +18,8 @@ use std::alloc::Global;
 /// # Errors
 ///
 /// `Malformed` exactly where a line can't stand where it stands, or a table is open at the end; else `NoFilter` exactly
-/// where there is no table `filter`; else `UndefinedChain` exactly where a rule's chain isn't declared. `Memory` where
-/// memory runs out.
+/// where there is no table `filter`; else `UndefinedChain` exactly where a rule's chain isn't declared or its `-g` names no
+/// declared user chain. `Memory` where memory runs out.
 pub fn read_dump<F: Family<W>, const W: u32>(
     alloc: Global,
     text: &[u8],

@@ -77,8 +77,8 @@ impl<F: Family<W>, const W: u32> Reading<F, W> {
     /// # Errors
     ///
     /// `Malformed` exactly where a line can't stand where it stands, or a table is open at the end; else `NoFilter` exactly
-    /// where there is no table `filter`; else `UndefinedChain` exactly where a rule's chain isn't declared. `Memory` where
-    /// memory runs out. Where `feed` failed, its fault.
+    /// where there is no table `filter`; else `UndefinedChain` exactly where a rule's chain isn't declared or its `-g` names
+    /// no declared user chain. `Memory` where memory runs out. Where `feed` failed, its fault.
     pub fn finish(self, alloc: Global) -> Result<Dump<Prim_<W>>, ReadFault>
         requires width { IsWidth W }
         requires reads { IsReading W F.Reads self }

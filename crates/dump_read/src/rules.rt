@@ -4,11 +4,11 @@ ghost use Rattle.dump_grammar.specs.ChainLines.{is_among};
 ghost use Rattle.dump_grammar.specs.Tables.{Placed, names_of};
 ghost use Rattle.dump_grammar.specs.declared.chains.Declared.{Declared as AChain};
 ghost use Rattle.dump_read.specs.inner.Parts.{OnMalformed};
-ghost use Rattle.dump_read.specs.inner.States.{IsWritable, Keeps, with_rule};
+ghost use Rattle.dump_read.specs.inner.States.{IsWritable, Keeps, now_undefined, with_rule};
 
 use crate::fault::LineFault;
 use crate::state::State;
-use dump_grammar::{Declared, RuleLine};
+use dump_grammar::{Declared, RuleLine, Target};
 use fw_rule::{Chain, Rule};
 use match_expr::List;
 use primitives::Prim_;
@@ -54,6 +54,22 @@ pub(crate) fn add_chain<const W: u32>(
     Ok(())
 }
 
+// The first undefined line, where that was so before a rule of this line whose chain has the number, if it is declared.
+fn first_undefined(
+    before: Option<u32>,
+    number: Option<u32>,
+    target: &Target,
+    line: u32,
+) -> Option<u32>
+    ensures { result ≡ now_undefined before number target.now line }
+{
+    if before.is_some() || (number.is_some() && target.is_defined()) {
+        before
+    } else {
+        Some(line)
+    }
+}
+
 /// Adds a rule of this line to its chain.
 pub(crate) fn add_rule<const W: u32>(
     alloc: Global,
@@ -71,19 +87,18 @@ pub(crate) fn add_rule<const W: u32>(
     let RuleLine {
         chain,
         literals,
-        action,
+        target,
     } = rule;
     state.has_rules = true;
-    let Some(number) = state.names.number(chain.as_slice()) else {
-        if state.undefined.is_none() {
-            state.undefined = Some(line);
-        }
+    let number = state.names.number(chain.as_slice());
+    state.undefined = first_undefined(state.undefined, number, &target, line);
+    let Some(number) = number else {
         return Ok(());
     };
     let here = &mut state.chains[number as usize];
     let rule = Rule {
         lits: literals,
-        action,
+        action: target.into_action(),
         line,
     };
     push_rule(alloc, here, rule)

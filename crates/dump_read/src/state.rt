@@ -29,7 +29,7 @@ pub(crate) struct State<const W: u32> {
     pub names: ChainNames,
     /// The chains, with their rules so far.
     pub chains: Vec<Chain<Prim_<W>>>,
-    /// The line of the first rule whose chain isn't declared.
+    /// The line of the first rule whose chain isn't declared, or whose `-g` names no declared user chain.
     pub undefined: Option<u32>,
 }
 

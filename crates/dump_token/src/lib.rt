@@ -12,6 +12,3 @@ mod token;
 pub use fault::TokenFault;
 pub use law::one_reading;
 pub use token::{Token, tokens};
-
-#[cfg(test)]
-mod tests;

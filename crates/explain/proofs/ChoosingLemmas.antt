@@ -17,6 +17,7 @@ use Rattle.explain.specs.Choices.{Can, HasChoice, NoChoice, Steps, SkipsRule, Ta
 use Rattle.explain.specs.inner.Reaching.{match_of, is_reached, Leads, LeadsBack}
 use Rattle.explain.specs.inner.Views.{IsSight}
 use Rattle.fw_laws.specs.Frames.{Fits, step_of}
+use Rattle.fw_laws.proofs.Order.{still_fits}
 use Rattle.explain.specs.inner.Choosing.{is_passed, Chooses, ChoosesIn, ChoosesUpTo, ChoosesTo}
 use Rattle.explain.proofs.Literals.{known_is, sure, failing}
 use Rattle.explain.proofs.Turning.{no_rule, none_failing, none_sure}
@@ -188,6 +189,17 @@ module _ {P Packet : Type 0} (holds : P → Packet → Bool) (dump : Dump P) (p 
         up_to_passing a here at_c policy frames fits e t t_is =
             up_to_act taken here at_c policy frames fits e t (ap (act policy c next path frames) a ∙ ap (λ (z : State). Some z) (sym t_is))
 
+        -- the chain of a goto comes to an outcome
+        pub up_to_away : (k : ℕ) → rule.action ≡ Action.Goto k → (below : Path) → below ≡ spot → (there : Chain P) → slice_get dump.chains k ≡ Some there →
+            (added : List Place) (o : Option Verdict) → ChoosesTo holds dump p v k below past_end added o →
+            ChoosesTo holds dump p v c path past_end (places ++ unknown_places spot 0 rule.lits ++ added) o
+        up_to_away k a below below_is there at_k added o inner here at_c policy frames fits e t t_is =
+            let entered = up_to_act taken here at_c policy frames fits e (At k 0 below frames)
+            (ap (act policy c next path frames) a ∙ ap (λ (z : Path). Some (At k 0 z frames)) (sym below_is)) in
+            let fit : Fits below frames = subst (λ (z : Path). Fits z frames) (sym below_is) (still_fits dump c next path frames fits) in
+            chooses_both policy (At c 0 path frames) (At k 0 below frames) t (places ++ unknown_places spot 0 rule.lits) added entered
+            (inner there at_k policy frames fit e t t_is)
+
         -- the called chain comes to an outcome
         module _ (k : ℕ) (a : rule.action ≡ Action.Call k) (below : Path) (below_is : below ≡ spot) (there : Chain P) (at_k : slice_get dump.chains k ≡ Some there)
             (added : List Place) (o : Option Verdict) (inner : ChoosesTo holds dump p v k below reached added o) where
@@ -203,7 +215,7 @@ module _ {P Packet : Type 0} (holds : P → Packet → Bool) (dump : Dump P) (p 
               let entered = up_to_act taken here at_c policy frames fits e (At k 0 below (more frames))
               (ap (act policy c next path frames) a ∙ ap (λ (z : Path). Some (At k 0 z (more frames))) (sym below_is)) in
               chooses_both policy (At c 0 path frames) (At k 0 below (more frames)) t (places ++ unknown_places spot 0 rule.lits) added entered
-              (inner there at_k policy (more frames) (next, refl, below_is, fits) (back_is here at_c policy frames e) t t_is)
+              (inner there at_k policy (more frames) (next, [], refl, below_is, fits) (back_is here at_c policy frames e) t t_is)
             where
               back_is : (here : Chain P) → slice_get dump.chains c ≡ Some here → (policy : Option Verdict) (frames : List Frame) → PastEnd policy frames → (reached ≡ true) ↔ LeadsBack holds dump p policy v (more frames)
               back_is here at_c policy frames e = let b = behind_is here at_c policy frames e in (

@@ -25,7 +25,7 @@ use Rattle.explain.proofs.Following.{follows, goes, freely}
 use Rattle.explain.proofs.Leading.{ended_leads, verdict_leads}
 use Rattle.explain.proofs.ReachLemmas.{reached_is}
 
--- no call path of a ranked chain has more chains than the limit
+-- no path of calls and gotos from a ranked chain has more chains than the limit
 pub within_deepest : {P : Type 0} (dump : Dump P) (c : ℕ) (r : Ranked) → Settled dump c → IsRanked dump c r → Within dump MOST_CHAINS c
 within_deepest dump c r s ranked =
     let inside = settled_inside dump c s in

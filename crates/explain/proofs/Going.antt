@@ -21,7 +21,7 @@ use Rattle.explain.specs.inner.Reaching.{is_reached}
 use Rattle.explain.specs.inner.Views.{Has, AreRight, Covers, IsSight}
 use Rattle.explain.specs.inner.Choosing.{is_passed, ChoosesUpTo, ChoosesTo}
 use Rattle.fw_laws.specs.Frames.{step_of}
-use Rattle.explain.proofs.ChoosingLemmas.{up_to_start, up_to_end, up_to_next, up_to_outcome, up_to_passing, up_to_verdict, up_to_return}
+use Rattle.explain.proofs.ChoosingLemmas.{up_to_start, up_to_end, up_to_next, up_to_outcome, up_to_passing, up_to_away, up_to_verdict, up_to_return}
 
 -- an outcome that is a verdict, and one that isn't
 pub some_of : (o : Option Verdict) → is_some o ≡ true → (w : Verdict) × (o ≡ Some w)
@@ -161,6 +161,15 @@ module _ {P Packet : Type 0} (holds : P → Packet → Bool) (dump : Dump P) (vi
           places_is = more_are;
           chooses = λ p v right. up_to_passing holds dump p v c next start_path past_end g.added (g.chooses p v right) sight rule at_rule (seen p v right) e a;
         }
+
+        -- it goes to a chain
+        pub gone_away : (k : ℕ) → rule.action ≡ Action.Goto k → (there : Chain P) → slice_get dump.chains k ≡ Some there → (o : Option Verdict) (all : List Place) →
+            (added : List Place) × (all ≡ more ++ added) × ((p : Packet) (v : Verdict) → AreRight holds dump p v views → ChoosesTo holds dump p v k below past_end added o) → Gone o all
+        gone_away k a there at_k o all inner = (
+          g.added ++ own ++ inner.0,
+          inner.1 ∙ ap (λ (z : List Place). z ++ inner.0) more_are ∙ append_assoc start (g.added ++ own) inner.0,
+          λ p v right. up_to_away holds dump p v c next start_path past_end g.added (g.chooses p v right) sight rule at_rule (seen p v right) e k a below spot_is there at_k inner.0 o (inner.2 p v right),
+        )
 
         -- it calls a chain
         module _ (k : ℕ) (a : rule.action ≡ Action.Call k) (there : Chain P) (at_k : slice_get dump.chains k ≡ Some there) (behind : Bool) (behind_is : behind ≡ is_reached sight.behind past_end)

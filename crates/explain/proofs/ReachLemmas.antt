@@ -79,6 +79,9 @@ module _ {P Packet : Type 0} (holds : P → Packet → Bool) (dump : Dump P) (p 
     acting v callee behind Action.Pass there rest = iff_trans (Acting v Action.Pass) (Leads holds dump p policy v over) (By v behind) (to_one v over) rest
     acting v callee behind Action.Back there rest = (λ x. x, λ x. x)
     acting v callee behind (Action.Call k) there rest = calls v k callee behind (there k refl) rest
+    acting v callee behind (Action.Goto k) there rest =
+        let away : State = At k 0 (path ++ step_of c next ∷ []) frames in
+        iff_trans (Acting v (Action.Goto k)) (Leads holds dump p policy v away) (By v callee) (to_one v away) (there k refl policy (path ++ step_of c next ∷ []) frames)
     acting v callee behind (Action.Other name) there rest = (λ x. let e : None ≡ Some x.0 = x.1 in cc, λ x. absurd x)
 
   module _ (v : Verdict) (c next : ℕ) (here : Chain P) (at_c : slice_get dump.chains c ≡ Some here) where

@@ -21,7 +21,7 @@ use Rattle.explain.specs.inner.Views.{Has, IsSight, IsView, AreRight, Covers, Ke
 use Rattle.explain.proofs.ReachLemmas.{reach_past, reach_more}
 
 module _ {P Packet : Type 0} (holds : P → Packet → Bool) (dump : Dump P) (p : Packet) (v : Verdict) (c : ℕ) where
-  -- a view of the chain that a rule calls, and what is reached there
+  -- a view of the chain that a rule calls or goes to, and what is reached there
   abbrev pub CalleeIs : List (Option View) → Reach → Rule P → Type 0
   CalleeIs views callee rule = (k : ℕ) → target_of rule.action ≡ Some k → ((view : View) × Has views k view) × ReachIs holds dump p v k 0 callee
 
@@ -171,7 +171,7 @@ all_seen holds dump p v c rules left start views sights all behind h e s =
     subst (λ (z : List Sight). Seen holds dump p v c rules 0 start views z behind) (sym e) (subst (λ (n : ℕ). Seen holds dump p v c rules n start views sights behind) zero_left s)
 
 module _ {P Packet : Type 0} (holds : P → Packet → Bool) (dump : Dump P) (p : Packet) (v : Verdict) (c : ℕ) (rule : Rule P) where
-  -- the rule calls a chain whose view is there, or it calls none
+  -- the rule calls or goes to a chain whose view is there, or does neither
   pub called_one : (views : List (Option View)) (callee : Reach) (k : ℕ) → target_of rule.action ≡ Some k → ((view : View) × Has views k view) → ReachIs holds dump p v k 0 callee → CalleeIs holds dump p v c views callee rule
   called_one views callee k a has is j b =
       let same : k ≡ j = same_callee (sym a ∙ b) in subst (λ (z : ℕ). ((view : View) × Has views z view) × ReachIs holds dump p v z 0 callee) same (has, is)

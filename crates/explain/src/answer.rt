@@ -9,7 +9,7 @@ use thiserror::Error;
 /// Why a verdict can't be explained.
 #[derive(Debug, Drop, Error)]
 pub enum ExplainFault {
-    /// The chain's rules, counted over all call paths, are more than `limits::MOST_VISITS`.
+    /// The chain's rules, counted over all paths of calls and gotos, are more than `limits::MOST_VISITS`.
     #[error("too many visits")]
     Visits,
     /// Memory ran out.

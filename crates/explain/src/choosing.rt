@@ -58,8 +58,8 @@ fn push_places<P: Primitive>(
     Ok(())
 }
 
-/// What the chosen walk comes to in a chain: a verdict, or None where it comes to the chain's end or goes back. The
-/// places that it takes to hold are put behind the others.
+/// What the chosen walk comes to from the first rule of a chain: a verdict, or None where it comes to the end of the chain
+/// that it is in then, or goes back there. The places that it takes to hold are put behind the others.
 pub(crate) fn choose_in<P: Primitive>(
     alloc: Global,
     dump: &Dump<P>,
@@ -114,6 +114,20 @@ pub(crate) fn choose_in<P: Primitive>(
                 if outcome.is_some() {
                     return Ok(outcome);
                 }
+            }
+            Action::Goto(target) => {
+                let outcome = choose_in(
+                    alloc,
+                    dump,
+                    views,
+                    *target,
+                    depth - 1,
+                    past_end,
+                    path,
+                    places,
+                )?;
+                path.pop();
+                return Ok(outcome);
             }
             Action::Other(_) => unreachable!(),
         }

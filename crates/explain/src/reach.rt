@@ -68,7 +68,8 @@ fn by_verdict(wanted: Verdict, verdict: Verdict) -> Reach
     }
 }
 
-/// What a rule reaches that is taken.
+/// What a rule reaches that is taken, where `callee` is what is reached in the chain that it leads to. Behind a goto nothing
+/// is met.
 pub(crate) fn by_action(wanted: Verdict, callee: Reach, behind: Reach, action: &Action) -> Reach
     ensures { result ≡ spec.by_action wanted callee behind action.now }
 {
@@ -78,6 +79,7 @@ pub(crate) fn by_action(wanted: Verdict, callee: Reach, behind: Reach, action: &
         Action::Pass => behind,
         Action::Back => Reach::PastEnd,
         Action::Call(_) => through(callee, behind),
+        Action::Goto(_) => callee,
         Action::Other(_) => Reach::Never,
     }
 }

@@ -13,12 +13,13 @@ use Rattle.fw_rule.specs.declared.rule.Dump.{Dump}
 use Rattle.fw_rule.specs.Walk.{RuleOf, target_of}
 use Rattle.chain_graph.specs.Paths.{CallsNameChains}
 use Rattle.dump_grammar.specs.declared.chains.Declared.{Declared}
+use Rattle.dump_grammar.specs.declared.rule.Target.{Target}
 use Rattle.dump_grammar.specs.Lines.{Text, Word, Numbered, numbered_from, is_passed_over}
 use Rattle.dump_grammar.specs.ChainLines.{is_among, built_in}
 use Rattle.dump_grammar.specs.RuleLines.{IsRuleLine}
-use Rattle.dump_grammar.specs.Targets.{IsTarget}
+use Rattle.dump_grammar.specs.Targets.{IsJump, IsTarget, user_chain}
 use Rattle.dump_grammar.specs.Tables.{DumpTable, Placed, AreRuleLines, lines_of, names_of}
-use Rattle.dump_grammar.specs.Reads.{IsDump, dump_of, is_in, rule_of}
+use Rattle.dump_grammar.specs.Reads.{IsDump, action_of, dump_of, is_in, rule_of}
 
 -- an element of a list is the first one or one after it
 pub contains_cons : {X : Type 0} (z : X) (zs : List X) (x : X) → Contains (z ∷ zs) x → (z ≡ x) ⊎ Contains zs x
@@ -134,22 +135,29 @@ module _ {W : ℕ} where
       (subst (λ (r : Chain (Prim_ W)). Contains r.rules rule) (sym is) inside) in
       (placed, filter_from (is_in d.name) rules placed among, same)
 
-called : (action : Action) (k : ℕ) → target_of action ≡ Some k → action ≡ Action.Call k
-called (Action.Call j) k is = let same : j ≡ k = cc in ap Action.Call same
-called action k is = absurd (cc)
-
-no_pass : (k : ℕ) → Action.Call k ≡ Action.Pass → ⊥
-no_pass k is = cc
-
 chosen : (b : Bool) (o : Option ℕ) (k : ℕ) → cond b None o ≡ Some k → o ≡ Some k
 chosen true o k is = absurd (cc)
 chosen false o k is = is
 
-call_below : (names : List Text) (target : List Word) (k : ℕ) → IsTarget names target (Action.Call k) → k < length names
-call_below names target k (inl (none, is)) = absurd (no_pass k is)
-call_below names target k (inr (inl (name, following, (words, jump)))) =
-    (position-Some (bytes_eq name.text) names k [] (chosen (is_among built_in name.text) _ k jump.1)).0
-call_below names target k (inr (inr (name, (words, is)))) = absurd (cc)
+user_below : (names : List Text) (name : Text) (j k : ℕ) → user_chain names name ≡ Some j → Some j ≡ Some k → k < length names
+user_below names name j k is e = let same : j ≡ k = cc in
+    subst (λ (n : ℕ). n < length names) same (position-Some (bytes_eq name) names j [] (chosen (is_among built_in name) _ j is)).0
+
+jump_below : (names : List Text) (name : Text) (following : List Word) (action : Action) (k : ℕ) → target_of action ≡ Some k → IsJump names name following action → k < length names
+jump_below names name following Action.Accept k e jump = let wrong : None ≡ Some k = e in absurd (cc)
+jump_below names name following Action.Drop k e jump = let wrong : None ≡ Some k = e in absurd (cc)
+jump_below names name following Action.Pass k e jump = let wrong : None ≡ Some k = e in absurd (cc)
+jump_below names name following Action.Back k e jump = let wrong : None ≡ Some k = e in absurd (cc)
+jump_below names name following (Action.Call j) k e jump = user_below names name j k jump.1 e
+jump_below names name following (Action.Goto j) k e jump = absurd jump
+jump_below names name following (Action.Other shown) k e jump = let wrong : None ≡ Some k = e in absurd (cc)
+
+-- what a target leads to is one of the declared chains
+target_below : (names : List Text) (words : List Word) (target : Target) (k : ℕ) → target_of (action_of target) ≡ Some k → IsTarget names words target → k < length names
+target_below names words (Target.Does action) k e (inl (none, is)) = let wrong : None ≡ Some k = sym (ap target_of is) ∙ e in absurd (cc)
+target_below names words (Target.Does action) k e (inr (inl (name, following, (spelled, jump)))) = jump_below names name.text following action k e jump
+target_below names words (Target.Does action) k e (inr (inr (name, j, (spelled, user, is)))) = user_below names name.text j k user (sym (ap target_of is) ∙ e)
+target_below names words Target.Undefined k e is = let wrong : None ≡ Some k = e in absurd (cc)
 
 module _ {W : ℕ} (Reads : Text → ℕ → Type 0) where
   line_of_rule : (names : List Text) (lines : List Numbered) (rules : List (Placed W)) → AreRuleLines W Reads names lines rules → (p : Placed W) → Contains rules p
@@ -173,14 +181,13 @@ module _ {W : ℕ} (Reads : Text → ℕ → Type 0) where
     rises_lower rule_number (q.number + 1) (line.number + 1) rules (omega arith) (rises_spelled names lines rules (line.number + 1) more rest),
   )
 
-  -- each call of a dump that was read names a chain
+  -- each call and goto of a dump that was read names a chain
   pub calls_named : (text : Text) (dump : Dump (Prim_ W)) → IsDump W Reads text dump → CallsNameChains dump
   unfolding chain_with
   calls_named text dump reads = subst CallsNameChains (sym reads.dump_is) (λ a b (rule, there, calls).
       let (p, among, is) = placed_of reads.chains reads.rules a rule there in
       let (words, line) = line_of_rule (names_of reads.chains) reads.filter_is.inside.rule_lines reads.rules reads.filter_is.inside.spells p among in
-      let below = call_below (names_of reads.chains) line.target b (subst (IsTarget (names_of reads.chains) line.target)
-      (ap (λ (r : Rule (Prim_ W)). r.action) is ∙ called rule.action b calls) line.targeted) in
+      let below = target_below (names_of reads.chains) line.target p.rule.target b (ap (λ (r : Rule (Prim_ W)). target_of r.action) is ∙ calls) line.targeted in
       omega (arith, below, length-map reads.chains (λ (d : Declared). d.name), length-map reads.chains (chain_with reads.rules)))
 
   -- of the rules of a dump that was read one has each line

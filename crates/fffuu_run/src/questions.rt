@@ -65,7 +65,7 @@ pub fn question<F: Family<W>, const W: u32>(
     })
 }
 
-/// The status of a refusal. A chain that calls itself is told by its name.
+/// The status of a refusal. A chain that leads to itself is told by its name.
 pub fn told<const W: u32>(alloc: Global, dump: &Dump<Prim_<W>>, refusal: Refusal) -> Status
     requires { (c : ℕ) → refusal ≡ Refusal.Loop c → c < length dump.now.chains }
     ensures { (result ≡ Status.Memory) ⊎ IsToldAs dump.now refusal result }

@@ -30,7 +30,7 @@ pub enum Status {
     /// The text has no table filter.
     NoFilter,
 
-    /// This line is the first rule line of a chain that isn't declared.
+    /// This line is the first rule line of a chain that isn't declared, or whose goto leads to no declared user chain.
     UndefinedChain { line: u32 },
 
     /// No chain of the asked name has a policy.
@@ -39,7 +39,7 @@ pub enum Status {
     /// The least line of a rule in the reach of the asked chain whose target isn't supported, and the target's name.
     Unsupported { line: u32, name: Bytes },
 
-    /// The first declared chain in reach that calls itself over some path.
+    /// The first declared chain in reach that leads to itself over some path.
     CallLoop { name: Bytes },
 
     /// The number of this kind is past its limit.

@@ -85,10 +85,10 @@ fn answered<S: Source, O: Sink>(
 /// - `InputTooLong` exactly where a mode reads and byte 16,777,217 came before the end. No more than that is taken.
 /// - `Malformed` exactly where that line is the first outside the grammar.
 /// - `NoFilter` exactly where every line is well formed and no table filter is there.
-/// - `UndefinedChain` exactly where that line is the first rule line of a chain that isn't declared.
+/// - `UndefinedChain` exactly where that line is the first rule line of a chain that isn't declared, or whose goto leads to no declared user chain.
 /// - `NoChain` exactly where the asked chain isn't declared with a policy.
 /// - `Unsupported` exactly where that is the least line of a rule in reach whose target isn't supported.
-/// - `CallLoop` exactly where that is the first declared chain in reach that calls itself over some path.
+/// - `CallLoop` exactly where that is the first declared chain in reach that leads to itself over some path of calls and gotos.
 /// - `Limit` exactly where the number of that kind is past its limit, and no kind before it is: the chains on a call path for
 ///   all modes, then for a filter, a matrix and a verdict on sources the items of the rewritten tree, the literals of its flat list, the
 ///   longest list of cubes and the simple rules, then for a filter the printed lines, for a matrix the boundaries of address sets, for a

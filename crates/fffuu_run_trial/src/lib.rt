@@ -1,4 +1,4 @@
-//! Tries runs of the program: words and input in memory, and what comes of them.
+//! Tries runs of the program whose streams fail at one call, with words and streams in memory.
 #![tactic(auto)]
 
 #[cfg(test)]

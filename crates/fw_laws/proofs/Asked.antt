@@ -19,7 +19,7 @@ use Rattle.fw_laws.specs.Places.{Asks, OthersDontMatter}
 use Rattle.fw_laws.specs.Known.{KnownAlone, HasOneWalk, WalkIsMay, WalkIsMust}
 use Rattle.fw_laws.proofs.Alike.{same_after}
 use Rattle.fw_laws.proofs.Literals.{HoldAlike, match_alike}
-use Rattle.fw_laws.proofs.Moves.{Move, On, Home, Done, Into, move, along}
+use Rattle.fw_laws.proofs.Moves.{Move, On, Home, Done, Into, Away, move, along}
 
 module _ {P Packet : Type 0} (holds : P → Packet → Bool) (dump : Dump P) (p : Packet) where
   pub others_dont_matter : OthersDontMatter holds dump p
@@ -40,7 +40,7 @@ module _ {P Packet : Type 0} (holds : P → Packet → Bool) (dump : Dump P) (p 
         unknown = q;
       })
 
--- chains that calls lead to
+-- chains that calls and gotos lead to
 module _ {P : Type 0} (dump : Dump P) (asked : ℕ) where
   abbrev EachReached : List Frame → Type 0
   EachReached [] = Unit {0}
@@ -56,13 +56,14 @@ module _ {P : Type 0} (dump : Dump P) (asked : ℕ) where
       let g : EachReached (f ∷ rest) = subst EachReached q h.1 in subst ReachedAt (sym e) g
   by_move c next path frames t h (Done v e) = subst ReachedAt (sym e) tt
   by_move c next path frames t h (Into k q e) = subst ReachedAt (sym e) (append dump h.0 q, h)
+  by_move c next path frames t h (Away k q e) = subst ReachedAt (sym e) (append dump h.0 q, h.1)
 
   module _ {Packet : Type 0} (holds : P → Packet → Bool) (p : Packet) (m : Meaning) where
     keeps : (policy : Option Verdict) (s t : State) → ReachedAt s → step holds dump p m policy s ≡ Some t → ReachedAt t
     keeps policy (At c next path frames) t h e = by_move c next path frames t h (move dump c next path frames t holds p m policy e)
     keeps policy (Ended v) t h e = cc
 
-    -- a walk stands in chains alone that calls lead to
+    -- a walk stands in chains alone that calls and gotos lead to
     pub stands_reached : (policy : Option Verdict) (k c n : ℕ) (path : Path) (frames : List Frame) → after holds dump p m policy k (At asked 0 [] []) ≡ Some (At c n path frames) → Reaches dump asked c
     stands_reached policy k c n path frames e = (along holds dump p m policy ReachedAt (keeps policy) k (At asked 0 [] []) (At c n path frames) (Here, tt) e).0
 

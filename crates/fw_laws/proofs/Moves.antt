@@ -12,12 +12,13 @@ use Rattle.fw_rule.specs.Walk.{Path, Meaning, State, At, Ended, Frame, matches, 
 use Rattle.fw_rule.proofs.Ends.{contains_at}
 
 module _ {P : Type 0} (dump : Dump P) (c next : ℕ) (path : Path) (frames : List Frame) (t : State) where
-  -- to the rule after it, back to a frame, to a verdict, or into a chain that is called
+  -- to the rule after it, back to a frame, to a verdict, into a chain that is called, or away to that of a goto
   pub data Move : Type 0 where
     On : t ≡ At c (next + 1) path frames → Move
     Home : (f : Frame) (rest : List Frame) → frames ≡ f ∷ rest → t ≡ At f.chain f.next f.path rest → Move
     Done : (v : Verdict) → t ≡ Ended v → Move
     Into : (k : ℕ) → Calls dump c k → t ≡ At k 0 (path ++ record { chain = c; rule = next } ∷ []) (record { chain = c; next = next + 1; path = path } ∷ frames) → Move
+    Away : (k : ℕ) → Calls dump c k → t ≡ At k 0 (path ++ record { chain = c; rule = next } ∷ []) frames → Move
 
   by_back : (policy : Option Verdict) (all : List Frame) → frames ≡ all → back policy all ≡ Some t → Move
   by_back policy (f ∷ rest) e q = Home f rest e cc
@@ -30,6 +31,7 @@ module _ {P : Type 0} (dump : Dump P) (c next : ℕ) (path : Path) (frames : Lis
   by_action policy Action.Pass f q = On cc
   by_action policy Action.Back f q = by_back policy frames refl q
   by_action policy (Action.Call k) f q = Into k (f k refl) cc
+  by_action policy (Action.Goto k) f q = Away k (f k refl) cc
   by_action policy (Action.Other name) f q = cc
 
   by_match : (policy : Option Verdict) (action : Action) (b : Bool) → ((k : ℕ) → target_of action ≡ Some k → Calls dump c k) →

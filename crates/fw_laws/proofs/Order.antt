@@ -5,7 +5,7 @@ use Rattle.fw_rule.specs.declared.rule.Dump.{Dump}
 use Rattle.fw_rule.specs.declared.rule.Step.{Step}
 use Rattle.fw_rule.specs.Walk.{Path, State, At, Ended, Frame}
 use Rattle.fw_laws.specs.Frames.{step_of, Fits}
-use Rattle.fw_laws.proofs.Moves.{Move, On, Home, Done, Into}
+use Rattle.fw_laws.proofs.Moves.{Move, On, Home, Done, Into, Away}
 
 -- the paths part at a greater number of a rule, or the second goes on where the first ends
 abbrev pub Before : Path → Path → Type 0
@@ -57,17 +57,25 @@ module _ {P : Type 0} (dump : Dump P) (c next : ℕ) (path : Path) where
   abbrev here : Path
   here = path ++ step_of c next ∷ []
 
+  -- the path of a goto goes on behind the call of the last frame
+  longer : (g : Frame) (n : ℕ) (more : Path) → path ≡ g.path ++ step_of g.chain n ∷ more → here ≡ g.path ++ step_of g.chain n ∷ (more ++ step_of c next ∷ [])
+  longer g n more e = ap (λ (z : Path). z ++ step_of c next ∷ []) e ∙ append_assoc g.path (step_of g.chain n ∷ more) (step_of c next ∷ [])
+
+  -- the frames fit the path of a goto too
+  pub still_fits : (frames : List Frame) → Fits path frames → Fits here frames
+  still_fits [] h = tt
+  still_fits (g ∷ frames) h = (h.0, h.1 ++ step_of c next ∷ [], h.2, longer g h.0 h.1 h.3, h.4)
+
   by_home : (frames : List Frame) (f : Frame) (rest : List Frame) → frames ≡ f ∷ rest → Fits path frames → Moved here (At f.chain f.next f.path rest)
   by_home [] f rest e h = cc
   by_home (g ∷ frames) f rest e h =
       let same : g ≡ f = cc in
       let others : frames ≡ rest = cc in
-      let regroup : path ++ step_of c next ∷ [] ≡ g.path ++ step_of g.chain h.0 ∷ step_of c next ∷ [] =
-      ap (λ (z : Path). z ++ step_of c next ∷ []) h.2 ∙ append_assoc g.path (step_of g.chain h.0 ∷ []) (step_of c next ∷ []) in (
-        subst (λ (z : Frame). Fits z.path rest) same (subst (λ (z : List Frame). Fits g.path z) others h.3),
+      let regroup = longer g h.0 h.1 h.3 in (
+        subst (λ (z : Frame). Fits z.path rest) same (subst (λ (z : List Frame). Fits g.path z) others h.4),
         subst (λ (z : Frame). Before here (z.path ++ step_of z.chain z.next ∷ [])) same
             (subst (λ (z : Path). Before z (g.path ++ step_of g.chain g.next ∷ [])) (sym regroup)
-            (parts g.path (step_of g.chain h.0) (step_of g.chain g.next) (step_of c next ∷ []) (omega (arith, h.1)))),
+            (parts g.path (step_of g.chain h.0) (step_of g.chain g.next) (h.1 ++ step_of c next ∷ []) (omega (arith, h.2)))),
       )
 
   -- a walk that moves on comes to a rule behind
@@ -75,4 +83,5 @@ module _ {P : Type 0} (dump : Dump P) (c next : ℕ) (path : Path) where
   moved frames t h (On e) = subst (Moved here) (sym e) (h, parts path (step_of c next) (step_of c (next + 1)) [] (omega arith))
   moved frames t h (Home f rest q e) = subst (Moved here) (sym e) (by_home frames f rest q h)
   moved frames t h (Done v e) = subst (Moved here) (sym e) (tt, tt)
-  moved frames t h (Into k q e) = subst (Moved here) (sym e) ((next, refl, refl, h), deeper here (step_of k 0))
+  moved frames t h (Into k q e) = subst (Moved here) (sym e) ((next, [], refl, refl, h), deeper here (step_of k 0))
+  moved frames t h (Away k q e) = subst (Moved here) (sym e) (still_fits frames h, deeper here (step_of k 0))

@@ -1,11 +1,11 @@
 -- A walk goes on to later places alone.
-use Rattle.std.specs.Prelude.{ℕ, zero, suc, ◌+◌, ◌<◌, ◌≡◌, ◌⊎◌, Bool, List, [], ◌∷◌, ◌++◌, Option, Some, refl}
-use Rattle.std.proofs.Common.{subst, sym, ap, ◌∙◌, inl, inr, arith, append_assoc}
+use Rattle.std.specs.Prelude.{ℕ, zero, suc, ◌<◌, ◌≡◌, Bool, [], ◌∷◌, ◌++◌, Option, Some}
+use Rattle.std.proofs.Common.{subst, sym, ◌∙◌, arith}
 use Rattle.std.specs.Option.{option_and_then}
 use Rattle.std.proofs.lemmas.Option.{option_and_then_some}
 use Rattle.fw_rule.specs.declared.rule.Dump.{Dump}
 use Rattle.fw_rule.specs.declared.rule.Verdict.{Verdict}
-use Rattle.fw_rule.specs.Walk.{Path, Meaning, State, At, Ended, Frame, policy_of, step, after}
+use Rattle.fw_rule.specs.Walk.{Path, Meaning, State, At, Ended, policy_of, step, after}
 use Rattle.fw_laws.specs.Frames.{step_of}
 use Rattle.fw_laws.specs.Places.{NoPlaceTwice}
 use Rattle.fw_laws.proofs.Moves.{move}

@@ -22,7 +22,7 @@ module _ {P : Type 0} (dump : Dump P) where
   abbrev pub RoomStays : Type 0
   RoomStays = (image : Lit P → Lit P) → HasRoom dump → HasRoom (mapped_by image dump)
 
-  -- there are as many chains, and each calls those that it did
+  -- there are as many chains, and the calls and gotos of each lead to those that they did
   abbrev pub CallsStay : Type 0
   CallsStay = (image : Lit P → Lit P) → (length (mapped_by image dump).chains ≡ length dump.chains)
       × ((a b : ℕ) → Calls dump a b ↔ Calls (mapped_by image dump) a b)

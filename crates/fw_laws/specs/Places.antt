@@ -9,7 +9,7 @@ use Rattle.fw_rule.specs.Walk.{Path, Meaning, At, Frame, same_place, policy_of, 
 use Rattle.fw_laws.specs.Shape.{rule_at}
 
 module _ {P Packet : Type 0} (holds : P → Packet → Bool) (dump : Dump P) (p : Packet) where
-  -- after so many steps the walk of the asked chain stands where the place's last step says, over its calls; the place's literal doesn't matter here
+  -- after so many steps the walk of the asked chain stands where the place's last step says, over its calls and gotos; the place's literal doesn't matter here
   pub record Visits (m : Meaning) (asked count : ℕ) (place : Place) : Type 0 where
     pub chain : ℕ
     pub next : ℕ

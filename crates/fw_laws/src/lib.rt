@@ -16,6 +16,3 @@ pub use packets::packets_alike;
 pub use places::{no_place_twice, others_dont_matter};
 pub use shape::same_rules_same_walk;
 pub use verdicts::{dropped_or_accepted, exactly_one_verdict, must_is_may};
-
-#[cfg(test)]
-mod tests;

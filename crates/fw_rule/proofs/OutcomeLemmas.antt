@@ -88,6 +88,8 @@ module _ {P Packet : Type 0} (holds : P → Packet → Bool) (dump : Dump P) (p 
       by_action Action.Back hit is e = by_back fs (inr (here, rule, at_c, at_n, hit, is)) (goes_on hit Action.Back is) e
       by_action (Action.Call j) hit is e = sooner holds dump p m (At c n path fs) (At j 0 (path ++ record { chain = c; rule = n } ∷ []) (record { chain = c; next = n + 1; path = path } ∷ fs)) o
           (goes_on hit (Action.Call j) is) (ih j 0 (path ++ record { chain = c; rule = n } ∷ []) (record { chain = c; next = n + 1; path = path } ∷ fs) o e)
+      by_action (Action.Goto j) hit is e = sooner holds dump p m (At c n path fs) (At j 0 (path ++ record { chain = c; rule = n } ∷ []) fs) o
+          (goes_on hit (Action.Goto j) is) (ih j 0 (path ++ record { chain = c; rule = n } ∷ []) fs o e)
       by_action (Action.Other name) hit is e = absurd (some_aim o e)
 
       by_match : (b : Bool) → matches holds p m (path ++ record { chain = c; rule = n } ∷ []) rule ≡ b → run (suc k) (At c n path (fs ++ nowhere ∷ [])) ≡ aim o →

@@ -1,4 +1,4 @@
--- Chains that call one another, and which dumps a walk can go through.
+-- Chains that lead to one another, and which dumps a walk can go through.
 use Rattle.std.specs.Prelude.{ℕ, suc, ◌^◌, ◌<◌, ◌≡◌, List, length, Option, None, Some, slice_get, Contains, All, position}
 use Rattle.std.specs.Str.{bytes_eq}
 use Rattle.fw_rule.specs.declared.rule.Verdict.{Verdict}
@@ -25,13 +25,14 @@ module _ {P : Type 0} where
   abbrev pub chain_named : List ℕ → Dump P → Option ℕ
   chain_named name dump = position (λ (here : Chain P). bytes_eq here.name name) dump.chains
 
--- the chain that an action leads to, where it leads to one
+-- the chain that an action leads to, where it is a call or a goto. From here on calls are both of them
 abbrev pub target_of : Action → Option ℕ
 target_of Action.Accept = None
 target_of Action.Drop = None
 target_of Action.Pass = None
 target_of Action.Back = None
 target_of (Action.Call chain) = Some chain
+target_of (Action.Goto chain) = Some chain
 target_of (Action.Other name) = None
 
 module _ {P : Type 0} (dump : Dump P) where

@@ -4,7 +4,7 @@ use Rattle.std.specs.Cmp.Lexicographic.{pointwise}
 use Rattle.fw_rule.specs.declared.rule.Step.{Step}
 use Rattle.fw_rule.specs.declared.rule.Place.{Place}
 
--- a path is a list of steps, a rule of a chain each: the calls over which a chain is reached, the outermost first; at a literal it ends with the literal's own rule
+-- a path is a list of steps, a rule of a chain each: the calls and gotos over which a chain is reached, the outermost first; at a literal it ends with the literal's own rule
 abbrev pub Path : Type 0
 Path = List Step
 

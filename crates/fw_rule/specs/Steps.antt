@@ -16,7 +16,7 @@ pub record Frame : Type 0 where
   pub next : ℕ
   pub path : Path
 
--- a walk stands before the rule `next` of a chain, or past its last rule, and reached it over the calls of `path`; it has a frame for each call since it began, the last call first; or it has ended with a verdict
+-- a walk stands before the rule `next` of a chain, or past its last rule, and reached it over the calls and gotos of `path`; it has a frame for each call that isn't ended yet, the last call first; or it has ended with a verdict
 pub data State : Type 0 where
   At : (chain : ℕ) (next : ℕ) (path : Path) (frames : List Frame) → State
   Ended : Verdict → State
@@ -28,8 +28,8 @@ back policy (f ∷ frames) = Some (At f.chain f.next f.path frames)
 back (Some v) [] = Some (Ended v)
 back None [] = None
 
--- what a rule that matches does, as the rule `next` of a chain, where the walk's policy is this: there is no step at an
--- unsupported target
+-- what a rule that matches does, as the rule `next` of a chain, where the walk's policy is this: a call puts a frame
+-- there and a goto none, so what stands behind a goto isn't met again; there is no step at an unsupported target
 abbrev pub act : Option Verdict → ℕ → ℕ → Path → List Frame → Action → Option State
 act policy chain next path frames Action.Accept = Some (Ended Accept)
 act policy chain next path frames Action.Drop = Some (Ended Drop)
@@ -37,6 +37,7 @@ act policy chain next path frames Action.Pass = Some (At chain (next + 1) path f
 act policy chain next path frames Action.Back = back policy frames
 act policy chain next path frames (Action.Call k) =
     Some (At k 0 (path ++ record { chain = chain; rule = next } ∷ []) (record { chain = chain; next = next + 1; path = path } ∷ frames))
+act policy chain next path frames (Action.Goto k) = Some (At k 0 (path ++ record { chain = chain; rule = next } ∷ []) frames)
 act policy chain next path frames (Action.Other name) = None
 
 -- the policy of the chain of this number, where there is such a chain and it has one

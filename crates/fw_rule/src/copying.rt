@@ -22,6 +22,7 @@ pub(crate) fn same_action(alloc: Global, action: &Action) -> Result<Action, Allo
         Action::Pass => Action::Pass,
         Action::Back => Action::Back,
         Action::Call(chain) => Action::Call(*chain),
+        Action::Goto(chain) => Action::Goto(*chain),
         Action::Other(name) => Action::Other(same_bytes(alloc, name)?),
     })
 }

@@ -6,7 +6,7 @@ ghost use Rattle.std.specs.Prelude.{◌≡◌};
 /// The most bytes that an input has.
 pub const MOST_BYTES: usize = 16_777_216;
 
-/// The most chains that stand on a path of calls.
+/// The most chains that stand on a path of calls and gotos.
 pub const MOST_CHAINS: u32 = 256;
 
 /// The most items that a rewriting has, at all depths. It is told as `nodes`.

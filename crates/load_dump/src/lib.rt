@@ -4,6 +4,3 @@
 mod generating;
 
 pub use generating::load_text;
-
-#[cfg(test)]
-mod tests;

@@ -30,6 +30,7 @@ is_allowed count Action.Drop = true
 is_allowed count Action.Pass = true
 is_allowed count Action.Back = true
 is_allowed count (Action.Call k) = nat_lt 0 k && nat_lt k count
+is_allowed count (Action.Goto k) = false
 is_allowed count (Action.Other name) = false
 
 verdict_allowed : (count : ℕ) (accept : Bool) → is_allowed count (verdict_action accept) ≡ true
@@ -39,14 +40,15 @@ verdict_allowed count false = refl
 call_allowed : (count k : ℕ) → 1 ≤ k → k < count → is_allowed count (Action.Call k) ≡ true
 call_allowed count k l h = grind (arith, nat_tests)
 
--- an action that leads to a chain calls it
-call_is : (action : Action) (k : ℕ) → target_of action ≡ Some k → action ≡ Action.Call k
-call_is Action.Accept k e = let wrong : None ≡ Some k = e in absurd (cc wrong)
-call_is Action.Drop k e = let wrong : None ≡ Some k = e in absurd (cc wrong)
-call_is Action.Pass k e = let wrong : None ≡ Some k = e in absurd (cc wrong)
-call_is Action.Back k e = let wrong : None ≡ Some k = e in absurd (cc wrong)
-call_is (Action.Call j) k e = let f : Some j ≡ Some k = e in let same : j ≡ k = cc in ap Action.Call same
-call_is (Action.Other name) k e = let wrong : None ≡ Some k = e in absurd (cc wrong)
+-- the chain that an allowed action leads to is one of the first ones, but not the first of all
+target_allowed : (count : ℕ) (action : Action) (k : ℕ) → target_of action ≡ Some k → is_allowed count action ≡ true → (nat_lt 0 k && nat_lt k count) ≡ true
+target_allowed count Action.Accept k e a = let wrong : None ≡ Some k = e in absurd (cc wrong)
+target_allowed count Action.Drop k e a = let wrong : None ≡ Some k = e in absurd (cc wrong)
+target_allowed count Action.Pass k e a = let wrong : None ≡ Some k = e in absurd (cc wrong)
+target_allowed count Action.Back k e a = let wrong : None ≡ Some k = e in absurd (cc wrong)
+target_allowed count (Action.Call j) k e a = let f : Some j ≡ Some k = e in let same : k ≡ j = cc in ap (λ (n : ℕ). is_allowed count (Action.Call n)) same ∙ a
+target_allowed count (Action.Goto j) k e a = let wrong : false ≡ true = a in absurd (cc wrong)
+target_allowed count (Action.Other name) k e a = let wrong : None ≡ Some k = e in absurd (cc wrong)
 
 module _ (W : ℕ) (count : ℕ) where
   pub record IsFine (said : Said W) : Type 0 where
@@ -146,10 +148,10 @@ module _ {W : ℕ} (dump : Dump (Prim_ W)) (first : Chain (Prim_ W)) (others : L
     where
       by : IsOf a q.0 → (a ≡ 0) × (0 < b) × (b < count)
       by (inl f) =
-          let e = and_parts (nat_lt 0 b) (nat_lt b count) (sym (ap (is_allowed count) (call_is q.0.action b q.2)) ∙ f.1.allowed) in
+          let e = and_parts (nat_lt 0 b) (nat_lt b count) (target_allowed count q.0.action b q.2 f.1.allowed) in
           (f.0, grind (arith, nat_tests, e.0), grind (arith, nat_tests, e.1))
       by (inr f) =
-          let e = and_parts (nat_lt 0 b) (nat_lt b 0) (sym (ap (is_allowed 0) (call_is q.0.action b q.2)) ∙ f.allowed) in
+          let e = and_parts (nat_lt 0 b) (nat_lt b 0) (target_allowed 0 q.0.action b q.2 f.allowed) in
           absurd (grind (arith, nat_tests, e.1))
 
   supported : (a : ℕ) (rule : Rule (Prim_ W)) (name : List ℕ) → RuleOf dump a rule → rule.action ≡ Action.Other name → ⊥

@@ -1,6 +1,6 @@
 -- Printed chains one after another: what their lines say, and which dump they are.
 use Rattle.std.proofs.Common.{◌≡◌, ◌≢◌, ◌∙◌, ◌++◌, ◌+◌, ℕ, List, [], ◌∷◌, true, false, map, length, refl, ap, ap₂, sym, subst, append_assoc, append-nil, Option}
-use Rattle.std.specs.Prelude.{filter}
+use Rattle.std.specs.Prelude.{Bool, filter, ◌&&◌}
 use Rattle.std.specs.List.{AllByRecursion}
 use Rattle.std.specs.Str.{bytes_eq}
 use Rattle.std.proofs.lemmas.Bool.{or_left, or_right}
@@ -12,9 +12,10 @@ use Rattle.fw_rule.specs.declared.rule.Rule.{Rule}
 use Rattle.fw_rule.specs.declared.rule.Verdict.{Verdict}
 use Rattle.dump_grammar.specs.declared.chains.Declared.{Declared}
 use Rattle.dump_grammar.specs.declared.rule.RuleLine.{RuleLine}
+use Rattle.dump_grammar.specs.declared.rule.Target.{Target}
 use Rattle.dump_grammar.specs.ChainLines.{IsChainLine, is_among}
 use Rattle.dump_grammar.specs.Lines.{Numbered, Text, Word, numbered_from}
-use Rattle.dump_grammar.specs.Reads.{dump_of, is_in, rule_of}
+use Rattle.dump_grammar.specs.Reads.{dump_of, is_defined, is_in, rule_of}
 use Rattle.dump_grammar.specs.RuleLines.{IsRuleLine}
 use Rattle.dump_grammar.specs.Tables.{AreChainLines, AreRuleLines, Placed, names_of}
 use Rattle.dump_print.specs.Printed.{chain_words}
@@ -42,7 +43,7 @@ module _ {W : ℕ} where
   chain_line block = chain_words block.name block.policy
 
   abbrev pub rule_in : Text → Said W → RuleLine W
-  rule_in chain said = record { chain = chain; literals = said.literals; action = said.action }
+  rule_in chain said = record { chain = chain; literals = said.literals; target = Target.Does said.action }
 
   abbrev pub words_of : List (RuleText W) → List (List Word)
   words_of lines = map (λ (line : RuleText W). line.words) lines
@@ -155,12 +156,12 @@ module _ {W : ℕ} where
 
   -- ---- each rule's chain is declared
   places_declared : (names : List Text) (chain : Text) (n : ℕ) (lines : List (RuleText W)) → is_among names chain ≡ true
-      → AllByRecursion (λ (p : Placed W). is_among names p.rule.chain ≡ true) (places chain n lines)
+      → AllByRecursion (λ (p : Placed W). (is_among names p.rule.chain && is_defined p.rule.target) ≡ true) (places chain n lines)
   places_declared names chain n [] e = tt
-  places_declared names chain n (line ∷ lines) e = (e, places_declared names chain (n + 1) lines e)
+  places_declared names chain n (line ∷ lines) e = (ap (λ (b : Bool). b && true) e, places_declared names chain (n + 1) lines e)
 
   all_declared : (names : List Text) (n : ℕ) (blocks : List (Block W)) → AllByRecursion (λ (b : Block W). is_among names b.name ≡ true) blocks
-      → AllByRecursion (λ (p : Placed W). is_among names p.rule.chain ≡ true) (all_places n blocks)
+      → AllByRecursion (λ (p : Placed W). (is_among names p.rule.chain && is_defined p.rule.target) ≡ true) (all_places n blocks)
   all_declared names n [] e = tt
   all_declared names n (block ∷ blocks) e =
       each_append _ (places block.name n block.lines) (all_places (n + length block.lines) blocks)
@@ -177,7 +178,7 @@ module _ {W : ℕ} where
         (λ b e. or_right (bytes_eq block.name b.name) (is_among (block_names blocks) b.name) e) blocks (each_among blocks),
   )
 
-  pub rules_declared : (n : ℕ) (blocks : List (Block W)) → AllByRecursion (λ (p : Placed W). is_among (block_names blocks) p.rule.chain ≡ true) (all_places n blocks)
+  pub rules_declared : (n : ℕ) (blocks : List (Block W)) → AllByRecursion (λ (p : Placed W). (is_among (block_names blocks) p.rule.chain && is_defined p.rule.target) ≡ true) (all_places n blocks)
   rules_declared n blocks = all_declared (block_names blocks) n blocks (each_among blocks)
 
   -- ---- the lines of the chains

@@ -18,6 +18,7 @@ use Rattle.dump_grammar.specs.Groups.{AreGroups, Base, Group, all_differ}
 use Rattle.dump_grammar.specs.Lines.{Text, Word, bare}
 use Rattle.dump_grammar.specs.Literals.{AreLiterals}
 use Rattle.dump_grammar.specs.Printable.{IsPrintable}
+use Rattle.dump_grammar.specs.declared.rule.Target.{Target}
 use Rattle.dump_grammar.specs.RuleLines.{IsRuleLine}
 use Rattle.dump_grammar.specs.Targets.{IsJump}
 use Rattle.dump_print.specs.declared.protocols.Protocols.{Protocols}
@@ -104,7 +105,7 @@ Nothing groups = Unit {0}
 module _ (W : ℕ) (Reads : Text → ℕ → Type 0) where
   part_is_rule : (Knows : List Group → Type 0) (names : List Text) (chain target : Text) (action : Action) (options : List Text) (words : List Word) (literals : List (Lit (Prim_ W)))
       → (part : IsPart Reads Knows options words literals) → Knows part.groups → all_differ options ≡ true → IsJump names target [] action
-      → IsRuleLine Reads names (rule_words chain words target) (record { chain = chain; literals = literals; action = action })
+      → IsRuleLine Reads names (rule_words chain words target) (record { chain = chain; literals = literals; target = Target.Does action })
   part_is_rule Knows names chain target action options words literals part knows differ jump = record {
     rest = words ++ option_words (codes "-j") (bare target);
     head = ([], bare chain, (tt, refl, refl));
@@ -180,7 +181,7 @@ module _ (Reads : Text → ℕ → Type 0) (text_of : ℕ → Text) (W : ℕ) (w
 
   pub asked_line_is_rule : (names : List Text) (chain : Text) (cube : Cube W) (line : Choice) (target : Text) (action : Action)
       → HasSets cube → IsRegular cube → HasStates cube → HasPrintableNames cube → Contains (choices_of cube) line → IsJump names target [] action
-      → IsRuleLine Reads names (rule_words chain (part_words text_of W cube line) target) (record { chain = chain; literals = line_literals cube line; action = action })
+      → IsRuleLine Reads names (rule_words chain (part_words text_of W cube line) target) (record { chain = chain; literals = line_literals cube line; target = Target.Does action })
   asked_line_is_rule names chain cube line target action sets regular states printable there jump =
       let whole = line_part cube line sets regular states printable there in
       part_is_rule W Reads (Knowing (protocols_of cube.proto)) names chain target action whole.options (part_words text_of W cube line) (line_literals cube line)
@@ -212,7 +213,7 @@ module _ (W : ℕ) (Reads : Text → ℕ → Type 0) where
   protocol_return n is = record { part = protocol_part W Reads Nothing n is; differ = refl }
 
   pub return_line_is_rule : (names : List Text) (chain option : Text) (argument : Word) (x : Prim_ W) → IsReturn W Reads option argument x
-      → IsRuleLine Reads names (return_line chain option argument) (record { chain = chain; literals = yes x ∷ []; action = Action.Back })
+      → IsRuleLine Reads names (return_line chain option argument) (record { chain = chain; literals = yes x ∷ []; target = Target.Does (Action.Back) })
   return_line_is_rule names chain option argument x is =
       part_is_rule W Reads Nothing names chain (codes "RETURN") Action.Back (option ∷ []) (option_words option argument) (yes x ∷ []) is.part tt is.differ (refl, refl)
 
@@ -226,7 +227,7 @@ module _ (W : ℕ) (Reads : Text → ℕ → Type 0) where
   verdict_jump names false = inl (refl, refl)
 
   pub verdict_line_is_rule : (names : List Text) (chain : Text) (accept : Bool)
-      → IsRuleLine {W = W} Reads names (rule_words chain [] (verdict_text accept)) (record { chain = chain; literals = []; action = verdict_action accept })
+      → IsRuleLine {W = W} Reads names (rule_words chain [] (verdict_text accept)) (record { chain = chain; literals = []; target = Target.Does (verdict_action accept) })
   verdict_line_is_rule names chain accept =
       part_is_rule W Reads Nothing names chain (verdict_text accept) (verdict_action accept) [] [] [] (no_part Reads Nothing) tt refl (verdict_jump names accept)
 

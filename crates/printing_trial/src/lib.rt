@@ -1,10 +1,6 @@
-//! The tests of `dump_print`, `fw_text`, `printed_filter` and `printed_text`, in a crate of their own, so that each of them is
-//! proved once.
+//! Calls of the laws of `printed_filter` and `printed_text`, and of `print`, at rules that are written out. They stand in a
+//! crate of their own, so that those are proved once.
 #![tactic(auto)]
 
 #[cfg(test)]
-mod filters;
-#[cfg(test)]
 mod laws;
-#[cfg(test)]
-mod shown;

@@ -3,7 +3,7 @@ ghost use Rattle.interval_set.specs.Numbers.{IsWidth};
 ghost use Rattle.limits.specs.declared.TheConstants.{MOST_BYTES};
 
 use addr_text::{Family, V4, V6};
-use dump_read::{ReadFault, Reading, fronts_fit, one_answer, one_kind, read_dump};
+use dump_read::{ReadFault, Reading, fronts_fit, one_answer, one_kind};
 use fw_rule::Dump;
 use limits::MOST_BYTES;
 use primitives::Prim_;
@@ -29,15 +29,7 @@ fn names_and_lines<const W: u32>(
     Ok(shown)
 }
 
-// The same of the dump that a text is.
-fn shown<F: Family<W>, const W: u32>(alloc: Global, text: &[u8]) -> Result<Vec<u8>, ReadFault>
-    requires width { IsWidth W }
-    requires size { length text.now ≤ MOST_BYTES }
-{
-    names_and_lines(alloc, &read_dump::<F, W>(alloc, text)?)
-}
-
-// The same of the dump that a text is, which comes in pieces of this size.
+// The same of the dump that a text is which comes in pieces of this size.
 fn shown_in_pieces<F: Family<W>, const W: u32>(
     alloc: Global,
     text: &[u8],
@@ -58,92 +50,21 @@ fn shown_in_pieces<F: Family<W>, const W: u32>(
 }
 
 #[test]
-fn each_fault_is_told(rt: HostRuntime) {
-    let cases: [(&[u8], ReadFault); 9] = [
-        (b"", ReadFault::NoFilter),
-        (b"*raw\nno filter's \"line\nCOMMIT\n", ReadFault::NoFilter),
-        (b"*filter\n:F - [0:0]\n", ReadFault::Malformed { line: 3 }),
-        (
-            b"*filter\n:F - [0:0]\nCOMM",
-            ReadFault::Malformed { line: 3 },
-        ),
-        (
-            b"*filter\n:F -\n:F -\nCOMMIT",
-            ReadFault::Malformed { line: 3 },
-        ),
-        (
-            b"*filter\nCOMMIT\n*filter\nCOMMIT\n",
-            ReadFault::Malformed { line: 3 },
-        ),
-        (
-            b"*filter\n-A F -j ACCEPT\nCOMMIT\n",
-            ReadFault::UndefinedChain { line: 2 },
-        ),
-        (
-            b"*filter\n-A F -j ACCEPT\n:F -\nCOMMIT\n",
-            ReadFault::Malformed { line: 3 },
-        ),
-        (
-            b"*filter\n:F -\n-A F -s ::\nCOMMIT\n",
-            ReadFault::Malformed { line: 3 },
-        ),
-    ];
-    for (text, want) in cases {
-        assert!(rt; text.len() <= MOST_BYTES);
-        match shown::<V4, 32>(rt.alloc(), text) {
-            Ok(_) => assert!(rt; false),
-            Err(fault) => assert!(rt; fault == want),
-        }
-    }
-}
-
-#[test]
-fn rules_stand_in_their_chains(rt: HostRuntime) -> Result<(), Fail> {
-    let text =
-        b"# of today\n*raw\n:X - [0:0]\nCOMMIT\n\n*filter\n:INPUT DROP\n:in - [0:0]\n-A in -s ::/0\n \n-A in -j RETURN\n-A INPUT -j in\nCOMMIT";
-    assert!(rt; text.len() <= MOST_BYTES);
-    match shown::<V6, 128>(rt.alloc(), text) {
-        Ok(found) => assert_eq!(rt; found.as_slice(), b"INPUT\x0cin\x09\x0b".as_slice()),
-        Err(_) => assert!(rt; false),
-    }
-    Ok(())
-}
-
-#[test]
 fn pieces_are_read_as_the_whole_text(rt: HostRuntime) {
     let text =
         b"*filter\r\n:F - [0:0]\n# \"\n-A F -j ACCEPT\n\n-A F -m comment --comment \"a b\" -j DROP\nCOMMIT".as_slice();
-    assert!(rt; text.len() <= MOST_BYTES);
+    let malformed = b"*filter\nCOMMIT x\nCOMMIT\n*filter\n".as_slice();
+    assert!(rt; text.len() <= MOST_BYTES && malformed.len() <= MOST_BYTES);
     for size in [1, 2, 7] {
         assert!(rt; 0 < size);
         match shown_in_pieces::<V4, 32>(rt.alloc(), text, size) {
             Ok(found) => assert!(rt; found.as_slice() == b"F\x04\x06".as_slice()),
             Err(_) => assert!(rt; false),
         }
-    }
-}
-
-#[test]
-fn a_fault_is_told_again(rt: HostRuntime) {
-    let mut reading = Reading::<V4, 32>::new(rt.alloc());
-    let Ok(()) = reading.feed(rt.alloc(), b"*filter\nCOMM") else {
-        assert!(rt; false);
-        return;
-    };
-    let Err(first) = reading.feed(rt.alloc(), b"IT x\nCOMMIT\n") else {
-        assert!(rt; false);
-        return;
-    };
-    let Err(second) = reading.feed(rt.alloc(), b"*filter\n") else {
-        assert!(rt; false);
-        return;
-    };
-    let Err(last) = reading.finish(rt.alloc()) else {
-        assert!(rt; false);
-        return;
-    };
-    for fault in [first, second, last] {
-        assert!(rt; fault == ReadFault::Malformed { line: 2 });
+        match shown_in_pieces::<V4, 32>(rt.alloc(), malformed, size) {
+            Ok(_) => assert!(rt; false),
+            Err(fault) => assert!(rt; fault == ReadFault::Malformed { line: 2 }),
+        }
     }
 }
 

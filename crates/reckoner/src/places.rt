@@ -1,7 +1,7 @@
 ghost use Rattle.std.specs.Prelude.{◌≡◌, ◌++◌, ◌∷◌, [], IfOk};
 ghost use Rattle.fw_rule.specs.Walk.{RuleHasRoom, HasRoom, InSettled, Within};
 
-use fw_rule::{Action, Dump, Lit, Place, Rule, Step};
+use fw_rule::{Dump, Lit, Place, Rule, Step};
 use match_expr::{List, Primitive};
 use std::alloc::{AllocError, Global};
 
@@ -43,7 +43,7 @@ fn push_rule<P: Primitive>(
     Ok(())
 }
 
-/// Puts the places of the unknown literals last that calls lead to from a chain, whether rules match or not.
+/// Puts the places of the unknown literals last that calls and gotos lead to from a chain, whether rules match or not.
 pub(crate) fn push_chain<P: Primitive>(
     alloc: Global,
     dump: &Dump<P>,
@@ -69,8 +69,8 @@ pub(crate) fn push_chain<P: Primitive>(
             },
         )?;
         push_rule(alloc, rule, below.as_slice(), places)?;
-        if let Action::Call(callee) = &rule.action {
-            push_chain(alloc, dump, *callee, depth - 1, below.as_slice(), places)?;
+        if let Some(target) = rule.action.target() {
+            push_chain(alloc, dump, target, depth - 1, below.as_slice(), places)?;
         }
     }
     Ok(())

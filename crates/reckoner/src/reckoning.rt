@@ -49,7 +49,7 @@ fn under_each<P: Primitive>(
     }
 }
 
-/// What may and what must be accepted, by a walk for each set of the places that calls lead to from the chain. With n such places it walks 2^n times.
+/// What may and what must be accepted, by a walk for each set of the places that calls and gotos lead to from the chain. With n such places it walks 2^n times.
 pub fn reckon<P: Primitive>(
     alloc: Global,
     dump: &Dump<P>,

@@ -4,6 +4,3 @@
 mod service;
 
 pub use service::Service;
-
-#[cfg(test)]
-mod tests;

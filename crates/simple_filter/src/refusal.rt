@@ -34,9 +34,9 @@ pub enum Refusal {
     /// The least line of a rule in reach whose target isn't supported, and the target's name.
     #[error("line {line}: a target isn't supported")]
     Unsupported { line: u32, name: Bytes },
-    /// No target in reach is unsupported, and this is the first declared chain in reach that calls itself over some
+    /// No target in reach is unsupported, and this is the first declared chain in reach that leads to itself over some
     /// path.
-    #[error("chain {chain} calls itself")]
+    #[error("chain {chain} leads to itself")]
     Loop { chain: u32 },
     /// Neither stands, and something is too much.
     #[error("too much")]

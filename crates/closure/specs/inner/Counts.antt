@@ -30,6 +30,8 @@ row_items callee rest mode (Row.Decide v) = suc (rest mode)
 row_items callee rest mode (Row.Leave n) = suc (rest mode)
 row_items callee rest mode Row.LeaveLater = suc (rest (Soft 0) + suc (rest mode))
 row_items callee rest mode (Row.Run chain inner) = suc (callee chain inner + rest mode)
+row_items callee rest mode (Row.RunThenLeave chain inner) = suc (callee chain inner + suc (rest mode))
+row_items callee rest mode (Row.RunLater chain) = suc (rest (Soft 0) + suc (suc (callee chain (Soft 1) + 1) + rest mode))
 
 module _ {P : Type 0} (side : Side) where
   -- the same of a rule in a mode, where the table has the called chains' numbers

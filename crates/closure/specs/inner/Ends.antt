@@ -37,6 +37,8 @@ module _ (table : List Ends) where
   IsQuiet (Row.Leave n) = Unit {0}
   IsQuiet Row.LeaveLater = Unit {0}
   IsQuiet (Row.Run c mode) = MakesNone c mode
+  IsQuiet (Row.RunThenLeave c mode) = MakesNone c mode
+  IsQuiet (Row.RunLater c) = MakesNone c (Soft 1)
 
 -- of none of these chains, where the table says so, a verdict is made
 abbrev pub AreSilent : {P : Type 0} → List Ends → (ℕ → Mode → Tree P) → Type 0

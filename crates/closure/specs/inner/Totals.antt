@@ -1,6 +1,6 @@
 -- The number of literals, counted along the tree.
-use Rattle.std.specs.Prelude.{ℕ, ◌+◌, Bool, List, [], ◌∷◌}
-use Rattle.match_expr.specs.Meaning.{literal_count}
+use Rattle.std.specs.Prelude.{ℕ, ◌+◌, Bool, List, [], ◌∷◌, map}
+use Rattle.match_expr.specs.Meaning.{literal_count, sum_of}
 use Rattle.match_expr.specs.declared.expr.Expr.{Expr}
 use Rattle.fw_rule.specs.declared.rule.Lit.{Lit}
 use Rattle.closure.specs.inner.Counts.{capped}
@@ -8,6 +8,10 @@ use Rattle.closure.specs.inner.Counts.{capped}
 -- with the literals of one part more
 abbrev pub with_literals : {P : Type 0} → ℕ → Expr P → ℕ
 with_literals n e = capped (n + literal_count e)
+
+-- the literals of these expressions together
+abbrev pub together : {P : Type 0} → List (Expr P) → ℕ
+together es = sum_of (map literal_count es)
 
 -- the sum over all flat rules
 abbrev pub total_of : List (ℕ × Bool) → ℕ

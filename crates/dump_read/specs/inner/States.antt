@@ -1,5 +1,5 @@
 -- What a reader keeps of the lines so far. The contracts of private functions cite this.
-use Rattle.std.specs.Prelude.{ℕ, ◌+◌, ◌≤◌, ◌≡◌, Bool, true, false, List, [], ◌∷◌, ◌++◌, Option, Some, None, length}
+use Rattle.std.specs.Prelude.{ℕ, ◌+◌, ◌≤◌, ◌≡◌, Bool, true, false, List, [], ◌∷◌, ◌++◌, Option, Some, None, length, is_some, ◌||◌, ◌&&◌, if◌then◌else◌}
 use Rattle.std.specs.List.{AllByRecursion}
 use Rattle.limits.specs.declared.TheConstants.{MOST_BYTES}
 use Rattle.primitives.specs.declared.prim.Prim_.{Prim_}
@@ -7,11 +7,11 @@ use Rattle.fw_rule.specs.declared.rule.Rule.{Rule}
 use Rattle.fw_rule.specs.declared.rule.Chain.{Chain}
 use Rattle.dump_grammar.specs.declared.chains.Declared.{Declared}
 use Rattle.dump_grammar.specs.declared.rule.RuleLine.{RuleLine}
+use Rattle.dump_grammar.specs.declared.rule.Target.{Target}
 use Rattle.dump_grammar.specs.Printable.{IsPrintableLiteral}
-use Rattle.dump_grammar.specs.ChainLines.{is_among}
 use Rattle.dump_grammar.specs.Groups.{all_differ}
 use Rattle.dump_grammar.specs.Tables.{Placed, names_of}
-use Rattle.dump_grammar.specs.Reads.{dump_of}
+use Rattle.dump_grammar.specs.Reads.{dump_of, is_declared, is_defined}
 use Rattle.fw_rule.specs.declared.rule.Dump.{Dump}
 use Rattle.dump_read.specs.declared.fault.ReadFault.{ReadFault}
 use Rattle.dump_read.specs.declared.state.Part.{Part}
@@ -27,6 +27,10 @@ has_any (x ∷ xs) = true
 abbrev pub with_rule : {P : Type 0} → Chain P → Rule P → Chain P
 with_rule here rule = record { name = here.name; policy = here.policy; rules = here.rules ++ rule ∷ [] }
 
+-- the first undefined line after a rule with this target on this line, whose chain has the number, if it is declared
+abbrev pub now_undefined : Option ℕ → Option ℕ → Target → ℕ → Option ℕ
+now_undefined before number target line = if is_some before || (is_some number && is_defined target) then before else Some line
+
 module _ {W : ℕ} where
   -- the literals of the rule can be counted and printed
   abbrev pub IsWritable : RuleLine W → Type 0
@@ -36,15 +40,15 @@ module _ {W : ℕ} where
   abbrev pub AreWritable : List (Placed W) → Type 0
   AreWritable rules = AllByRecursion (λ (placed : Placed W). IsWritable placed.rule) rules
 
-  -- the chain of each rule is declared
+  -- each rule is declared
   abbrev pub AreDeclared : List Declared → List (Placed W) → Type 0
-  AreDeclared chains rules = AllByRecursion (λ (placed : Placed W). is_among (names_of chains) placed.rule.chain ≡ true) rules
+  AreDeclared chains rules = AllByRecursion (λ (placed : Placed W). is_declared chains placed ≡ true) rules
 
-  -- the line of the first rule whose chain isn't declared, if there is one
+  -- the line of the first rule that isn't, if there is one
   abbrev pub IsFirstUndeclared : List Declared → List (Placed W) → Option ℕ → Type 0
   IsFirstUndeclared chains rules None = AreDeclared chains rules
   IsFirstUndeclared chains rules (Some n) = (before : List (Placed W)) × (placed : Placed W) × (after : List (Placed W)) ×
-      ((rules ≡ before ++ placed ∷ after) × AreDeclared chains before × (is_among (names_of chains) placed.rule.chain ≡ false) × (placed.number ≡ n))
+      ((rules ≡ before ++ placed ∷ after) × AreDeclared chains before × (is_declared chains placed ≡ false) × (placed.number ≡ n))
 
   -- the state has these chains and rules of filter
   pub record Keeps (state : State W) (chains : List Declared) (rules : List (Placed W)) : Type 0 where

@@ -44,13 +44,15 @@ by_verdict Verdict.Drop Verdict.Drop = Reach.Inside
 by_verdict Verdict.Accept Verdict.Drop = Reach.Never
 by_verdict Verdict.Drop Verdict.Accept = Reach.Never
 
--- of a rule that is taken, where `callee` is that of the chain that it calls
+-- of a rule that is taken, where `callee` is that of the chain that it calls or goes to: a goto that is taken reaches what
+-- that chain reaches, and what stands behind it isn't met
 abbrev pub by_action : Verdict → Reach → Reach → Action → Reach
 by_action v callee behind Action.Accept = by_verdict v Verdict.Accept
 by_action v callee behind Action.Drop = by_verdict v Verdict.Drop
 by_action v callee behind Action.Pass = behind
 by_action v callee behind Action.Back = Reach.PastEnd
 by_action v callee behind (Action.Call k) = through callee behind
+by_action v callee behind (Action.Goto k) = callee
 by_action v callee behind (Action.Other name) = Reach.Never
 
 -- of a rule that is taken or passed over as it matches

@@ -29,7 +29,7 @@ module _ {P Packet : Type 0} (holds : P → Packet → Bool) (dump : Dump P) (p 
   abbrev pub AreRight : List (Option View) → Type 0
   AreRight views = (c : ℕ) (view : View) → Has views c view → IsView c view
 
--- a view has a sight for each rule of its chain, and with a chain the table has those that the chain calls
+-- a view has a sight for each rule of its chain, and with a chain the table has those that the chain calls or goes to
 pub record Covers {P : Type 0} (dump : Dump P) (views : List (Option View)) : Type 0 where
   pub long : length views ≡ length dump.chains
   pub sights : (c : ℕ) (view : View) (here : Chain P) → Has views c view → slice_get dump.chains c ≡ Some here → length view.sights ≡ length here.rules

@@ -33,7 +33,7 @@ pub returns-in_default-4-clause-none : goal.returns-in_default-4-clause-none
 returns-in_default-4-clause-none g c = λ rule is.
     let parts = parts_of {W = g.row.W} g.F.Family.Reads c.args.names.now (words_of c.args.words.now) c.in-Some.chain.now (words_of c.in-Some.rest.now) (words_of c.in-Some-2.end.now)
     (groups_of c.in-Some-2.found.items) rule c.in-Some.ensures.some (rw c.in-Some-2.is at c.in_ok-found.ensures.some) (rw c.in-Some-2.is at c.in_ok-found.ensures.ends) is in
-    (rw c.in_default-4.is at c.in_ok-action.ensures.none) rule.action parts.targeted
+    (rw c.in_default-4.is at c.in_ok-target.ensures.none) rule.target parts.targeted
 
 pub returns-clause-few : goal.returns-clause-few
 returns-clause-few g c =

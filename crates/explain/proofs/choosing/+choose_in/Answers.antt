@@ -9,7 +9,7 @@ use Rattle.explain.specs.declared.reach.Match.{Match}
 use Rattle.explain.specs.declared.reach.Reach.{Reach}
 use Rattle.explain.specs.declared.views.Sight.{Sight}
 use Rattle.explain.specs.Choices.{unknown_places}
-use Rattle.explain.proofs.Going.{some_of, none_of, rule_at, rule_of, calls_of, some_rule, inside, lits_fit, next_fits, past_at, going_first, going_over, gone_past, gone_accepting, gone_dropping, gone_back, going_through, gone_inside, going_behind, popped}
+use Rattle.explain.proofs.Going.{some_of, none_of, rule_at, rule_of, calls_of, some_rule, inside, lits_fit, next_fits, past_at, going_first, going_over, gone_past, gone_accepting, gone_dropping, gone_back, gone_away, going_through, gone_inside, going_behind, popped}
 use Rattle.explain.proofs.choosing.+choose_in.Goals as goal
 use Rattle.explain.proofs.choosing.+choose_in.Goals.{in-Pass, in-Call+in_ok-outcome-in-Call+else-is_some}
 
@@ -68,6 +68,34 @@ unreachable-requires g t c = ((c.requires.settled).1).known_targets c.args.chain
 kept : (o : Option Verdict) → o ≡ None → {A : Type 0} → IfNone o A → A
 kept None e h = h
 kept (Some w) e h = cc
+
+pub overflow_sub-depth-in-Goto : goal.overflow_sub-depth-in-Goto
+overflow_sub-depth-in-Goto g t c = (shallower c.args.dump.now c.args.depth c.args.chain c.in-Goto.target c.requires.within (calls_of c.args.dump.now c.args.chain c.rules_of-rules.result.now c.rules_of-rules.ensures c.loop-next.next c.index-rules-next.result c.loop-next-test.true c.index-rules-next.is c.in-Goto.target (ap target_of c.in-Goto.is))).0
+
+pub choose_in-requires-in-Goto : goal.choose_in-requires-in-Goto
+choose_in-requires-in-Goto g t c κs within =
+    let calls = calls_of c.args.dump.now c.args.chain c.rules_of-rules.result.now c.rules_of-rules.ensures c.loop-next.next c.index-rules-next.result c.loop-next-test.true c.index-rules-next.is c.in-Goto.target (ap target_of c.in-Goto.is) in
+    let less = shallower c.args.dump.now c.args.depth c.args.chain c.in-Goto.target c.requires.within calls in
+    (omega (arith, less.0, c.decreases), (search rules, (search rules, (further c.args.dump.now c.args.chain c.in-Goto.target c.requires.settled calls, (less.1, (c.requires.room, (c.requires.covers, c.requires.covers.below c.args.chain c.requires.has.0 c.requires.has.1 c.in-Goto.target calls)))))))
+
+where_none : (o : Option Verdict) (A B : Type 0) → (A → B) → IfNone o A → IfNone o B
+where_none None A B f h = f h
+where_none (Some w) A B f h = h
+
+pub returns-in-Goto-clause-path : goal.returns-in-Goto-clause-path
+returns-in-Goto-clause-path g t c =
+    let before = c.choose_in-in-Goto.new.path in
+    where_none c.in_ok-outcome-in-Goto.outcome (before.items ≡ c.push.new.self.items) (c.pop-in-Goto.new.self.items ≡ c.args.path.now.items)
+    (λ back. popped c.loop-next.path.items before.items c.pop-in-Goto.new.self.items (record { chain = c.args.chain; rule = c.loop-next.next }) (vec_len before) (back ∙ c.in_ok-push.ensures.items) c.pop-in-Goto.ensures.rest (omega (arith, before.ok.0))
+    ∙ c.loop-next.invariant.path_is) c.in_ok-outcome-in-Goto.ensures.path
+
+pub returns-in-Goto-clause-chooses : goal.returns-in-Goto-clause-chooses
+returns-in-Goto-clause-chooses g t c =
+    let calls = calls_of c.args.dump.now c.args.chain c.rules_of-rules.result.now c.rules_of-rules.ensures c.loop-next.next c.index-rules-next.result c.loop-next-test.true c.index-rules-next.is c.in-Goto.target (ap target_of c.in-Goto.is) in
+    let there = found_at c.args.dump.now.chains c.in-Goto.target (chain_inside c.args.dump.now c.in-Goto.target (further c.args.dump.now c.args.chain c.in-Goto.target c.requires.settled calls)) in
+    gone_away g.P.Primitive.meaning c.args.dump.now c.args.views.now c.args.chain c.args.path.now.items c.args.past_end c.args.places.now.items c.loop-next.next c.loop-next.path.items c.loop-next.places.items c.loop-next.invariant c.sights_of-sights.result.now c.sights_of-sights.ensures (get_or c.sights_of-sights.result.now c.loop-next.next unseen) (slice_get-get_or c.sights_of-sights.result.now c.loop-next.next unseen (inside c.args.dump.now c.args.chain c.rules_of-rules.result.now c.rules_of-rules.ensures c.loop-next.next c.args.views.now c.sights_of-sights.result.now c.requires.covers c.sights_of-sights.ensures c.loop-next-test.true)) c.index-rules-next.result (rule_at c.args.dump.now c.args.chain c.rules_of-rules.result.now c.rules_of-rules.ensures c.loop-next.next c.index-rules-next.result c.loop-next-test.true c.index-rules-next.is) (sym c.is_passed.ensures ∙ c.if-is_passed.false) c.push.new.self.items c.in_ok-push.ensures.items c.push_places.new.places.items
+    (c.in_ok-push_places.ensures ∙ ap (λ (z : Path). c.loop-next.places.items ++ unknown_places z 0 c.index-rules-next.result.lits) c.as_slice.ensures.value) c.in-Goto.target c.in-Goto.is there.0 there.1
+    c.in_ok-outcome-in-Goto.outcome c.choose_in-in-Goto.new.places.items c.in_ok-outcome-in-Goto.ensures.chooses
 
 pub loop-next-preserved : goal.loop-next-preserved
 loop-next-preserved g t c = elim c.match-rule.branch [

@@ -1,4 +1,4 @@
-use Rattle.std.proofs.Common.{◌<◌, ◌^◌, arith, rules}
+use Rattle.std.proofs.Common.{◌<◌, ◌^◌, arith, rules, sym, ◌∙◌}
 use Rattle.fw_rule.proofs.Turns as turn
 use Rattle.reckoner.proofs.places.+push_chain.Goals as goal
 
@@ -13,10 +13,10 @@ push_rule-requires g t c = turn.room_of c.args.dump.now c.args.chain c.loop-next
 
 pub overflow_sub-depth : goal.overflow_sub-depth
 overflow_sub-depth g t c =
-    (turn.shallower c.args.dump.now c.args.depth c.args.chain c.in-Call.callee c.requires.within (turn.calls_of c.args.dump.now c.args.chain c.loop-next.next c.as_slice.result.now c.index-as_slice-chain.result c.as_slice-rules.result.now c.as_slice.ensures c.requires.settled c.index-as_slice-chain.is c.as_slice-rules.ensures c.index-rules-next.result c.loop-next-test.true c.index-rules-next.is c.in-Call.callee c.in-Call.is)).0
+    (turn.shallower c.args.dump.now c.args.depth c.args.chain c.in-Some.target c.requires.within (turn.calls_of c.args.dump.now c.args.chain c.loop-next.next c.as_slice.result.now c.index-as_slice-chain.result c.as_slice-rules.result.now c.as_slice.ensures c.requires.settled c.index-as_slice-chain.is c.as_slice-rules.ensures c.index-rules-next.result c.loop-next-test.true c.index-rules-next.is c.in-Some.target (sym c.target.ensures ∙ c.in-Some.is))).0
 
 pub push_chain-requires : goal.push_chain-requires
 push_chain-requires g t c κs within =
-    let calls = turn.calls_of c.args.dump.now c.args.chain c.loop-next.next c.as_slice.result.now c.index-as_slice-chain.result c.as_slice-rules.result.now c.as_slice.ensures c.requires.settled c.index-as_slice-chain.is c.as_slice-rules.ensures c.index-rules-next.result c.loop-next-test.true c.index-rules-next.is c.in-Call.callee c.in-Call.is in
-    let less = turn.shallower c.args.dump.now c.args.depth c.args.chain c.in-Call.callee c.requires.within calls in
-    (omega (arith, less.0, c.decreases), (search rules, (search rules, (turn.further c.args.dump.now c.args.chain c.in-Call.callee c.requires.settled calls, (less.1, c.requires.room)))))
+    let calls = turn.calls_of c.args.dump.now c.args.chain c.loop-next.next c.as_slice.result.now c.index-as_slice-chain.result c.as_slice-rules.result.now c.as_slice.ensures c.requires.settled c.index-as_slice-chain.is c.as_slice-rules.ensures c.index-rules-next.result c.loop-next-test.true c.index-rules-next.is c.in-Some.target (sym c.target.ensures ∙ c.in-Some.is) in
+    let less = turn.shallower c.args.dump.now c.args.depth c.args.chain c.in-Some.target c.requires.within calls in
+    (omega (arith, less.0, c.decreases), (search rules, (search rules, (turn.further c.args.dump.now c.args.chain c.in-Some.target c.requires.settled calls, (less.1, c.requires.room)))))

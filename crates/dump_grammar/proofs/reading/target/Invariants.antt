@@ -1,4 +1,0 @@
-use Rattle.dump_grammar.proofs.reading.target.Given as goal
-
-abbrev pub ghost-jump : goal.ghost-jump
-ghost-jump g a = g.chains

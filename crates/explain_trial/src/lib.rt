@@ -1,5 +1,0 @@
-//! Tries explanations on small dumps.
-#![tactic(auto)]
-
-#[cfg(test)]
-mod tests;
