@@ -94,6 +94,11 @@ def ending(rng, goes, users, gotos):
     return [f"{'-g' if goes in users and rng.random() < gotos else '-j'} {goes}"]
 
 
+def otherwise(rng, forward):
+    """In most tables a last rule that decides otherwise than the policy of FORWARD, so that a chain that is left too early shows."""
+    return [f"-A FORWARD -j {'DROP' if 'FORWARD ACCEPT' in forward else 'ACCEPT'}"] if rng.random() < 0.6 else []
+
+
 def text(rng, family, kind):
     """A filter table as iptables-restore takes it. Chains call only later ones, or go to them. In a third of the tables many packets come
     to calls and gotos."""
@@ -109,10 +114,7 @@ def text(rng, family, kind):
             if winding or goes in ("RETURN", *users) and rng.random() < 0.6:
                 tests = tests[:1]
             lines.append(" ".join([f"-A {name}", *tests, *ending(rng, goes, users, 0.5)]))
-    if rng.random() < 0.6:
-        # what comes to the end is decided otherwise than by the policy, so that a chain that is left too early shows
-        lines.append(f"-A FORWARD -j {'DROP' if 'FORWARD ACCEPT' in lines[2] else 'ACCEPT'}")
-    return "\n".join([*lines, "COMMIT", ""])
+    return "\n".join([*lines, *otherwise(rng, lines[2]), "COMMIT", ""])
 
 
 def doubtful_text(rng, family, kind):
@@ -124,14 +126,16 @@ def doubtful_text(rng, family, kind):
     for at, name in enumerate(users):
         rules.insert(rng.randrange(len(rules) + 1), [rng.choice(["FORWARD", *users[:at]]), matches(rng, family, kind), name])
     decide = [at for at, (_, _, goes) in enumerate(rules) if goes.split(" ")[0] not in ("", "NFLOG", "CONNMARK")]
-    doubtful = rng.sample(decide, min(len(decide), 3))
+    # in half of the tables those first that lead to a chain
+    first = [at for at in decide if rules[at][2] in users] if rng.random() < 0.5 else []
+    doubtful = [*first, *rng.sample([at for at in decide if at not in first], min(len(decide) - len(first), 3 - len(first)))]
     for bit, at in enumerate(doubtful):
         # most of them without another test, so that many packets come under them
         rules[at][1] = rules[at][1] if rng.random() < 0.3 else []
         rules[at][1].append(f"-m mark {maybe_not(rng)}--mark {1 << bit:#x}/{1 << bit:#x}")
     lines = ["*filter", ":INPUT ACCEPT [0:0]", f":FORWARD {rng.choice(['ACCEPT', 'DROP'])} [0:0]", ":OUTPUT ACCEPT [0:0]", *[f":{name} - [0:0]" for name in users]]
     lines += [" ".join([f"-A {name}", *tests, *ending(rng, goes, users, 0.5)]) for name, tests, goes in rules]
-    return "\n".join([*lines, "COMMIT", ""]), len(doubtful)
+    return "\n".join([*lines, *otherwise(rng, lines[2]), "COMMIT", ""]), len(doubtful)
 
 
 def address(rng, family, corners=None):

@@ -27,6 +27,8 @@ class Reading:
     name: str
     edits: tuple
     seen: bool
+    # how many times the dumps, where few of them show it
+    times: int = 1
 
 
 TEST_ALONE = ("crates/primitives/src/prim.rt", "p.proto == 6 && p.flags & *mask == *comp", "p.flags & *mask == *comp")
@@ -82,7 +84,7 @@ READINGS = [
     Reading("a flag test without its protocol", (TEST_ALONE, *LINE_ALONE), True),
     Reading("a RETURN of a called chain that ends the calling one too", (RETURN,), True),
     Reading("a goto that comes back as a call does", (GOTO,), True),
-    Reading("a doubtful goto that comes back as a call does", (DOUBTFUL_GOTO,), True),
+    Reading("a doubtful goto that comes back as a call does", (DOUBTFUL_GOTO,), True, 5),
     # the tools take a test of flags behind `-p tcp` alone, and that one is read as it was
     Reading("a flag test without its protocol on a line that has it", (TEST_ALONE,), False),
 ]
@@ -163,7 +165,7 @@ def main():
             room = pathlib.Path(folder)
             copy_with(reading, room / "copy")
             built(room / "copy", room / "fffuu")
-            (dumps, packets, found), first = differences(room / "fffuu", words.dumps, words.packets)
+            (dumps, packets, found), first = differences(room / "fffuu", words.dumps * reading.times, words.packets)
         wrong += (found > 0) != reading.seen
         print(f"{reading.name}: {found:,} differences in {dumps:,} dumps and {packets:,} packets{'' if reading.seen else ' (none can be seen)'}\n  {first}", flush=True)
     return 1 if wrong else 0

@@ -1,0 +1,11 @@
+pub mod Passing
+pub mod Earlier
+pub mod Sources
+pub mod Replacing
+pub mod Respecting
+pub mod Once
+pub mod Going
+pub mod Prefixes
+pub mod Painting
+pub mod Choosing
+pub mod Arriving

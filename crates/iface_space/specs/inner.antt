@@ -1,0 +1,3 @@
+-- What the bodies alone work with. No public clause cites it.
+pub mod Adding
+pub mod Longest
