@@ -233,13 +233,95 @@ CASES |= {
         prints("classes 2\n0 0.0.0.0-9.255.255.255,11.0.0.0-255.255.255.255\n1 10.0.0.0-10.255.255.255\nedges 2\n1 0\n1 1\n")),
     "forged sources that a goto keeps back": (
         "spoof eth0=10.0.0.0/8 eth1=10.0.0.0/8", GOTO_BY_NAME,
-        prints("eth0 holds\neth1 violated in=eth1 out= src=0.0.0.0 dst=0.0.0.0 proto=0 sport=0 dport=0 flags=NONE state=NEW\n")),
+        prints("eth0 holds\neth1 violated in=eth1 out= src=0.0.0.0 dst=0.0.0.0 proto=0 sport=0 dport=0 flags=NONE state=NEW icmp=0\n")),
     "a goto is checked": ("check", LEFT_BY_GOTO, prints("ok chains 3 rules 5 unknown 0\n")),
     "a goto of no declared chain": ("check", wrapped(":FORWARD DROP [0:0]", "-A FORWARD -g LOST"), (7, "", "fffuu: line 3: undefined chain\n")),
     "a goto of its own chain": (
         "upper", wrapped(":FORWARD DROP [0:0]", ":A - [0:0]", "-A FORWARD -j A", "-A A -g A"), (10, "", "fffuu: call loop through A\n")),
     "an unsupported target behind a goto": (
         "lower", chains("FORWARD -g A", "A -j NFQUEUE --queue-num 1"), (9, "", "fffuu: line 7: unsupported target NFQUEUE\n")),
+}
+
+
+ECHO = forward("-p icmp -m icmp --icmp-type 8 -j ACCEPT")
+NO_ECHO = forward("-p icmp -m icmp ! --icmp-type 8 -j ACCEPT")
+ECHO_FROM_TEN = forward("-s 10.0.0.0/8 -p icmp -m icmp --icmp-type 8 -j ACCEPT")
+ECHO6 = forward("-p ipv6-icmp -m icmp6 --icmpv6-type 128 -j ACCEPT")
+NAMED_TYPE = forward("-p icmp -m icmp --icmp-type echo-request -j ACCEPT")
+TWO_TYPES = wrapped(":FORWARD DROP [0:0]", ":C1 - [0:0]", "-A FORWARD -p icmp -j C1", "-A C1 -p icmp -m icmp --icmp-type 5 -j RETURN",
+                    "-A C1 -p icmp -m icmp --icmp-type 13 -j RETURN", "-A C1 -j ACCEPT")
+TWO_TYPES6 = wrapped(":FORWARD DROP [0:0]", ":C1 - [0:0]", "-A FORWARD -i eth0 -p ipv6-icmp -j C1", "-A C1 -p ipv6-icmp -m icmp6 --icmpv6-type 133 -j RETURN",
+                     "-A C1 -p ipv6-icmp -m icmp6 --icmpv6-type 134 -j RETURN", "-A C1 -j ACCEPT")
+NAMES_AND_TYPES = wrapped(":FORWARD DROP [0:0]", ":C1 - [0:0]", "-A FORWARD -p icmp -j C1", "-A C1 -i eth0 -j RETURN", "-A C1 -i lo -j RETURN",
+                          "-A C1 -p icmp -m icmp --icmp-type 5 -j RETURN", "-A C1 -p icmp -m icmp --icmp-type 13 -j RETURN", "-A C1 -j DROP")
+ALL_TYPES = wrapped(":FORWARD DROP [0:0]", ":C1 - [0:0]", "-A FORWARD -p icmp -j C1",
+                    *(f"-A C1 -p icmp -m icmp --icmp-type {kind} -j RETURN" for kind in range(255)), "-A C1 -j ACCEPT")
+LIMITED_ECHO = forward("-p icmp -m icmp --icmp-type 8 -m limit --limit 1/sec -j ACCEPT", "-p icmp -m icmp --icmp-type 8 -j DROP", "-p icmp -j ACCEPT")
+
+CASES |= {
+    "a type comes back": ("upper", ECHO, prints(ECHO)),
+    "a type comes back from lower": ("lower", ECHO, prints(ECHO)),
+    "all types but one come back": ("upper", NO_ECHO, prints(NO_ECHO)),
+    "a type of IPv6 comes back": ("upper --family 6", ECHO6, prints(ECHO6)),
+    "a type of ipv6-icmp in a dump of IPv4": ("upper", ECHO6, prints(ECHO6)),
+    "a type of icmp in a dump of IPv6": ("lower --family 6", NO_ECHO, prints(NO_ECHO)),
+    "a type by its name may hold": ("upper", NAMED_TYPE, prints(forward("-p icmp -j ACCEPT"))),
+    "a type by its name need not hold": ("lower", NAMED_TYPE, prints(forward())),
+    "a type with a code may hold": ("upper", forward("-p icmp -m icmp --icmp-type 3/4 -j ACCEPT"), prints(forward("-p icmp -j ACCEPT"))),
+    "type 255 is not understood": ("lower", forward("-p icmp -m icmp --icmp-type 255 -j ACCEPT"), prints(forward())),
+    "the module of types is its protocol": ("upper", forward("-m icmp --icmp-type 8 -j ACCEPT"), prints(ECHO)),
+    "a negated type is also another protocol": (
+        "upper", forward("-m icmp ! --icmp-type 8 -j ACCEPT"), prints(forward("! -p icmp -j ACCEPT", "-p icmp -m icmp ! --icmp-type 8 -j ACCEPT"))),
+    "a type of another protocol than the line's": ("upper", forward("-p tcp -m icmp --icmp-type 8 -j ACCEPT"), prints(forward())),
+    "two types of one line never hold together": ("upper", forward("-p icmp -m icmp --icmp-type 8 -m icmp --icmp-type 0 -j ACCEPT"), prints(forward())),
+    "a type and its negation in another module": (
+        "upper", forward("-m icmp --icmp-type 8 -m icmp6 ! --icmpv6-type 8 -j ACCEPT"), prints(ECHO)),
+    "a type stands behind ranges of addresses and before states": (
+        "upper", forward("-m conntrack --ctstate NEW -p icmp -m icmp --icmp-type 8 -m iprange --src-range 10.0.0.1-10.0.0.2 -o ppp0 -d 10.0.0.0/8 -j ACCEPT"),
+        prints(forward("-d 10.0.0.0/8 -o ppp0 -p icmp -m iprange --src-range 10.0.0.1-10.0.0.2 -m icmp --icmp-type 8 -m conntrack --ctstate NEW -j ACCEPT"))),
+    "two excluded types need a helper chain": (
+        "upper", calling("-p icmp -m icmp --icmp-type 5 -j RETURN", "-p icmp -m icmp --icmp-type 13 -j RETURN", "-p icmp -j ACCEPT"), prints(TWO_TYPES)),
+    "two excluded types in descending order": (
+        "lower", calling("-p icmp -m icmp --icmp-type 13 -j RETURN", "-p icmp -m icmp --icmp-type 5 -j RETURN", "-p icmp -j ACCEPT"), prints(TWO_TYPES)),
+    "two excluded types of IPv6": (
+        "upper --family 6", calling("-p ipv6-icmp -m icmp6 --icmpv6-type 134 -j RETURN", "-p 58 -m icmp6 --icmpv6-type 133 -j RETURN", "-i eth0 -p 58 -j ACCEPT"),
+        prints(TWO_TYPES6)),
+    "excluded names stand before excluded types": (
+        "upper", calling("-p icmp -m icmp --icmp-type 5 -j RETURN", "-i eth0 -j RETURN", "-p icmp -m icmp --icmp-type 13 -j RETURN", "-i lo -j RETURN",
+                         "-p icmp -j DROP"), prints(NAMES_AND_TYPES)),
+    "all types but 255 are excluded": (
+        "upper", calling(*(f"-p icmp -m icmp --icmp-type {kind} -j RETURN" for kind in range(255)), "-p icmp -j ACCEPT"), prints(ALL_TYPES)),
+    "type 255 alone explained": ("explain proto=icmp icmp=255", ALL_TYPES, prints("accept under 0\ndrop never\n")),
+    "type 254 among them explained": ("explain proto=icmp icmp=254", ALL_TYPES, prints("accept never\ndrop under 0\n")),
+    "a type explained": ("explain proto=icmp icmp=8", ECHO, prints("accept under 0\ndrop never\n")),
+    "another type explained": ("explain proto=icmp icmp=0", ECHO, prints("accept never\ndrop under 0\n")),
+    "a missing type is 0": ("explain proto=icmp", ECHO, prints("accept never\ndrop under 0\n")),
+    "a missing type is that of an echo reply": (
+        "explain proto=icmp", forward("-p icmp -m icmp --icmp-type 0 -j ACCEPT"), prints("accept under 0\ndrop never\n")),
+    "a type of another protocol explained": ("explain proto=ipv6-icmp icmp=8", ECHO, prints("accept never\ndrop under 0\n")),
+    "a limited type explained": ("explain proto=icmp icmp=8", LIMITED_ECHO, prints("accept under 1\nFORWARD 1 literal 3\ndrop under 0\n")),
+    "a type beside a limited one explained": ("explain proto=icmp icmp=3", LIMITED_ECHO, prints("accept under 0\ndrop never\n")),
+    "a type by its name explained": ("explain proto=icmp icmp=8", NAMED_TYPE, prints("accept under 1\nFORWARD 1 literal 2\ndrop under 0\n")),
+    "a matrix of icmp asks for an echo": (
+        "matrix icmp:0:0", ECHO_FROM_TEN,
+        prints("classes 2\n0 0.0.0.0-9.255.255.255,11.0.0.0-255.255.255.255\n1 10.0.0.0-10.255.255.255\nedges 2\n1 0\n1 1\n")),
+    "a matrix of icmp asks for no reply": (
+        "matrix icmp:0:0", ECHO_FROM_TEN.replace("type 8", "type 0"), prints("classes 1\n0 0.0.0.0-255.255.255.255\nedges 0\n")),
+    "a matrix of ipv6-icmp asks for an echo": ("matrix ipv6-icmp:0:0", ECHO6, prints("classes 1\n0 0.0.0.0-255.255.255.255\nedges 1\n0 0\n")),
+    "a matrix of ipv6-icmp has no type of icmp": (
+        "matrix 58:0:0", ECHO6.replace("type 128", "type 8"), prints("classes 1\n0 0.0.0.0-255.255.255.255\nedges 0\n")),
+    "forged messages of one type": (
+        "spoof eth0=10.0.0.0/8", ECHO, prints("eth0 violated in=eth0 out= src=0.0.0.0 dst=0.0.0.0 proto=1 sport=0 dport=0 flags=NONE state=NEW icmp=8\n")),
+    "forged messages of the first type that is left": (
+        "spoof eth0=10.0.0.0/8", forward("-p icmp -m icmp --icmp-type 0 -j DROP", "-p icmp -m icmp --icmp-type 1 -j DROP", "-p icmp -j ACCEPT"),
+        prints("eth0 violated in=eth0 out= src=0.0.0.0 dst=0.0.0.0 proto=1 sport=0 dport=0 flags=NONE state=NEW icmp=2\n")),
+    "forged messages of the last type": (
+        "spoof eth0=2001:db8::/32 --family 6", ALL_TYPES.replace("--icmp-type", "--icmpv6-type").replace("-m icmp ", "-m icmp6 ").replace("-p icmp ", "-p ipv6-icmp "),
+        prints("eth0 violated in=eth0 out= src=:: dst=:: proto=58 sport=0 dport=0 flags=NONE state=NEW icmp=255\n")),
+    "types are counted as understood": ("check", TWO_TYPES, prints("ok chains 2 rules 4 unknown 0\n")),
+    "two arguments of a type": ("upper", forward("-p icmp -m icmp --icmp-type 8 9 -j ACCEPT"), malformed(3)),
+    "a type without its argument": ("check", forward("-p icmp -m icmp --icmp-type"), malformed(3)),
+    "a mark behind the option of a type": ("lower", forward("-p icmp -m icmp --icmp-type ! 8 -j ACCEPT"), malformed(3)),
 }
 
 
@@ -291,7 +373,7 @@ LAST_DROPPED = forward("-s 255.255.255.255/32 -j DROP", policy="ACCEPT")
 BY_NAME = forward("-i eth0 -j ACCEPT")
 GUARDED = ("-m conntrack --ctstate ESTABLISHED -j ACCEPT", "! -s 10.0.0.0/8 -i eth0 -j DROP", "-j ACCEPT")
 HALF_GUARDED = ("-m conntrack --ctstate ESTABLISHED -j ACCEPT", "! -s 10.0.0.0/8 -i eth0 -p tcp -j DROP", "-j ACCEPT")
-FORGED = "eth0 violated in=eth0 out= src=0.0.0.0 dst=0.0.0.0 proto=0 sport=0 dport=0 flags=NONE state=NEW\n"
+FORGED = "eth0 violated in=eth0 out= src=0.0.0.0 dst=0.0.0.0 proto=0 sport=0 dport=0 flags=NONE state=NEW icmp=0\n"
 ALL = "0 0.0.0.0-255.255.255.255\n"
 NO_EDGE = "classes 1\n" + ALL + "edges 0\n"
 ONE_EDGE = "classes 1\n" + ALL + "edges 1\n0 0\n"
@@ -382,7 +464,7 @@ FIELDS = "state=INVALID flags=SYN,ACK dport=65535 sport=22 proto=udplite dst=255
 DNS = forward("-p udp -m udp --sport 1 --dport 53 -j ACCEPT")
 THREE_PARTS = ("-i eth0 -s 10.0.0.0/8 -j ACCEPT", "-i eth0 -m iprange --src-range 1.1.1.1-1.1.1.2 -j ACCEPT", "-i eth0 -s 9.9.9.9/32 -j ACCEPT")
 ALL6 = "classes 1\n0 ::-ffff:ffff:ffff:ffff:ffff:ffff:ffff:ffff\n"
-FORGED6 = "x violated in=x out= src=2001:db9:: dst=:: proto=0 sport=0 dport=0 flags=NONE state=NEW\n"
+FORGED6 = "x violated in=x out= src=2001:db9:: dst=:: proto=0 sport=0 dport=0 flags=NONE state=NEW icmp=0\n"
 CASES |= {
     "a missing field is 0, NONE or NEW": ("explain proto=tcp", NO_FIELDS, ACCEPTED),
     "a missing protocol is 0": ("explain", returning(255), ACCEPTED),
@@ -516,11 +598,13 @@ BAD_FIELDS = ["src", "src=", "src=1.2.3", "src=10.0.0.0/8", "src=::1", "dst=1.2.
               "sport=65536", "dport=http", "dport=-1", "dport=01", "flags=", "flags=SYN,", "flags=syn", "state=", "state=new", "state=NEW,RELATED",
               "in=hex:6", "in=hex:6g", "out=hex:0", "mark=1", "=1", "SRC=1.1.1.1", "src=1.1.1.1 src=1.1.1.1", "in=a in=b", "flags=ACK flags=ACK",
               "ttl=1", "=1.2.3.4", "src=1.2.3.4/32", "dst=01.2.3.4", "proto=06", "sport=080", "dport=+5", "flags=SYN,ALL", "state=NEW,ESTABLISHED",
-              "out=hex:0g", "src=1.2.3.4 src=1.2.3.5"]
+              "out=hex:0g", "src=1.2.3.4 src=1.2.3.5", "icmp=", "icmp=256", "icmp=08", "icmp=+8", "icmp=-1", "icmp=8/0", "icmp=any", "icmp=echo-request",
+              "icmp=8 icmp=8", "ICMP=8", "icmpv6=8", "proto=icmp type=8"]
 GOOD_FIELDS = ["", "in=", "in=hex:", "in=hex:6A6b", "in=eth0=x", "out=a", "src=1.2.3.4 dst=255.255.255.255", "proto=tcp", "proto=0", "proto=255",
                "sport=0 dport=65535", "flags=NONE", "flags=ALL", "flags=FIN", "flags=RST,PSH,URG", "flags=ACK,SYN,ACK", "flags=SYN,ACK",
                "flags=SYN,SYN", "state=INVALID", "state=RELATED", "state=ESTABLISHED", "state=UNTRACKED",
-               "in=a out=b src=1.1.1.1 dst=2.2.2.2 proto=6 sport=1 dport=2 flags=FIN state=NEW"]
+               "icmp=0", "icmp=255", "proto=icmp icmp=8", "proto=tcp icmp=8", "icmp=254 proto=58",
+               "in=a out=b src=1.1.1.1 dst=2.2.2.2 proto=6 sport=1 dport=2 flags=FIN state=NEW icmp=3"]
 
 # what no request is
 BAD_WORDS = [
@@ -637,7 +721,7 @@ LIMITS = {
     "4,098 boundaries": ("matrix tcp:1:1", even_nets(2049), limit("atoms")),
     "65,536 regions": ("spoof eth0=9.9.9.9", region_drops(), prints(FORGED)),
     "65,536 regions of tcp": ("spoof eth0=127.0.0.0/8", paired_drops(255), prints(
-        "eth0 violated in=eth0 out= src=0.0.0.0 dst=0.0.0.0 proto=6 sport=0 dport=0 flags=NONE state=NEW\n")),
+        "eth0 violated in=eth0 out= src=0.0.0.0 dst=0.0.0.0 proto=6 sport=0 dport=0 flags=NONE state=NEW icmp=0\n")),
     "65,792 regions of tcp": ("spoof eth0=127.0.0.0/8", paired_drops(256), limit("regions")),
     "more regions": ("spoof eth0=9.9.9.9", region_drops(ONE_MORE), limit("regions")),
     "more regions behind the answer": ("spoof eth0=9.9.9.9", region_drops("-A FORWARD -s 200.0.0.0/8 -p udp -j ACCEPT", ONE_MORE),

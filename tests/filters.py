@@ -13,11 +13,14 @@ import walker
 
 NAMES = ["", "eth0", "eth1", "eth10", "lo", "ppp0", "a b", "br-lan"]
 PATTERNS = ["eth0", "eth+", "eth1+", "lo", "+", '"a b"', "br-+"]
-UNKNOWN = ["-m limit --limit 5/sec", "-m recent --rcheck", "-m addrtype --dst-type LOCAL", "-m socket", "-m mark ! --mark 0x1", "-m comment ! --comment x"]
+UNKNOWN = ["-m limit --limit 5/sec", "-m recent --rcheck", "-m addrtype --dst-type LOCAL", "-m socket", "-m mark ! --mark 0x1", "-m comment ! --comment x",
+           "-m icmp --icmp-type any", "-m icmp6 ! --icmpv6-type 1/0"]
 PORT_WORDS = ["22", "1024:65535", "0:21", "53", "80", "65535"]
 LISTS = ["80,443", "22,25,80:90", "0:9,11:19,21:29", "53", "1,3,5,7,9,11,13,15,17,19,21,23,25,27,29"]
 PORTS = [0, 1, 10, 20, 21, 22, 23, 25, 53, 80, 85, 90, 443, 1024, 65535]
-NUMBERS = [0, 1, 6, 17, 47, 132, 255]
+NUMBERS = [0, 1, 1, 6, 17, 47, 58, 58, 132, 255]
+TYPES = [0, 3, 5, 8, 13, 128, 254, 255]
+MESSAGES = {"icmp": "-m icmp {}--icmp-type {}", "ipv6-icmp": "-m icmp6 {}--icmpv6-type {}"}
 EXCLUDED = ["-i eth0", "-i eth1", "-i lo", "-o eth0", "-o ppp0", "-o br-lan", "-p tcp", "-p udp", "-p icmp", "-p 47"]
 STATE_LISTS = ["NEW", "RELATED,ESTABLISHED", "INVALID", "NEW,UNTRACKED", "INVALID,NEW,RELATED,ESTABLISHED,UNTRACKED"]
 FLAG_TESTS = ["--syn", "--tcp-flags SYN,ACK SYN", "--tcp-flags ALL NONE", "--tcp-flags FIN,RST FIN", "--tcp-flags NONE NONE"]
@@ -42,13 +45,19 @@ def address_match(rng, family):
     return f"{maybe_not(rng)}{rng.choice(['-s', '-d'])} {rng.choice(addresses(family))}/{rng.choice(lengths)}"
 
 
+def type_match(rng, name):
+    return MESSAGES[name].format(maybe_not(rng), rng.choice([kind for kind in TYPES if kind < 255]))
+
+
 def protocol_match(rng):
-    name = rng.choice(["tcp", "tcp", "udp", "sctp", "icmp", "47", "all"])
+    name = rng.choice(["tcp", "tcp", "udp", "sctp", "icmp", "ipv6-icmp", "47", "all"])
     found = [f"{maybe_not(rng) if name != 'all' else ''}-p {name}"]
     if name in ("tcp", "udp") and rng.random() < 0.5:
         found.append(f"-m {name} {maybe_not(rng)}{rng.choice(['--sport', '--dport'])} {rng.choice(PORT_WORDS)}")
     if name == "tcp" and rng.random() < 0.4:
         found.append(f"-m tcp {maybe_not(rng)}{rng.choice(FLAG_TESTS)}")
+    if rng.random() < 0.6 and name in MESSAGES:
+        found.append(type_match(rng, name))
     if rng.random() < 0.4:
         found.append(f"-m multiport {maybe_not(rng)}{rng.choice(['--sports', '--dports', '--ports'])} {rng.choice(LISTS)}")
     return found
@@ -64,6 +73,8 @@ def matches(rng, family):
         found += protocol_match(rng)
     if rng.random() < 0.25:
         found.append(f"-m {rng.choice(['conntrack {}--ctstate', 'state {}--state']).format(maybe_not(rng))} {rng.choice(STATE_LISTS)}")
+    if rng.random() < 0.1:
+        found.append(type_match(rng, rng.choice(list(MESSAGES))))
     if rng.random() < 0.35:
         found += rng.sample(UNKNOWN, rng.choice([1, 1, 2]))
     rng.shuffle(found)
@@ -71,9 +82,16 @@ def matches(rng, family):
 
 
 def exclusions(rng, name):
-    """A chain that returns for some names and protocols and gives the others a verdict: helper chains come of it."""
+    """A chain that returns for some names and protocols, or for some types of messages, and gives the others a verdict: helper chains come
+    of it."""
     wanted = rng.choice(["", "", "-i eth+ ", "-o br-+ "])
-    return [*(f"-A {name} {match} -j RETURN" for match in rng.sample(EXCLUDED, rng.randrange(2, 6))),
+    if rng.random() < 0.4:
+        proto = rng.choice(list(MESSAGES))
+        wanted = rng.choice([f"-p {proto} ", f"-p {proto} ", f"-p {proto} {wanted}", wanted])
+        excluded = [f"-p {proto} {MESSAGES[proto].format('', kind)}" for kind in TYPES if kind < 255] + EXCLUDED[:3]
+    else:
+        excluded = EXCLUDED
+    return [*(f"-A {name} {match} -j RETURN" for match in rng.sample(excluded, rng.randrange(2, 6))),
             f"-A {name} {wanted}-j {rng.choice(['ACCEPT', 'ACCEPT', 'DROP'])}"]
 
 
@@ -121,7 +139,7 @@ def packet(rng, family):
 
     return {"in": rng.choice(NAMES), "out": rng.choice(NAMES), "src": value(), "dst": value(), "proto": rng.choice(NUMBERS),
             "sport": rng.choice(PORTS), "dport": rng.choice(PORTS), "flags": rng.choice([0, 2, 18, rng.randrange(64)]),
-            "state": rng.randrange(5)}
+            "state": rng.randrange(5), "icmp": rng.choice([*TYPES, rng.randrange(256)])}
 
 
 def words_of(packet, family):
@@ -135,7 +153,7 @@ def words_of(packet, family):
     names = [flag for at, flag in enumerate(walker.FLAGS) if packet["flags"] >> at & 1]
     return [f"in={name(packet['in'])}", f"out={name(packet['out'])}", f"src={address(packet['src'])}", f"dst={address(packet['dst'])}",
             f"proto={packet['proto']}", f"sport={packet['sport']}", f"dport={packet['dport']}", f"flags={','.join(names) or 'NONE'}",
-            f"state={walker.STATES[packet['state']]}"]
+            f"state={walker.STATES[packet['state']]}", f"icmp={packet['icmp']}"]
 
 
 def asked(program, words, family, given):

@@ -34,6 +34,14 @@ PORTS = [
     ('""', UNKNOWN), ("4294967296", UNKNOWN),
 ]
 
+# the same for types of messages behind --icmp-type and --icmpv6-type
+TYPES = [
+    ("0", "0"), ("8", "8"), ("128", "128"), ("254", "254"), ('"8"', "8"), ("255", UNKNOWN), ("256", UNKNOWN), ("08", UNKNOWN), ("00", UNKNOWN), ("+8", UNKNOWN),
+    ("-8", UNKNOWN), ('"8 "', UNKNOWN), ('""', UNKNOWN), ("0x8", UNKNOWN), ("4294967304", UNKNOWN), ("8/0", UNKNOWN), ("3/1", UNKNOWN), ("3:5", UNKNOWN),
+    ("3,5", UNKNOWN), ("any", UNKNOWN), ("echo-request", UNKNOWN), ("8 9", None), ("", None), ("! 8", None), ("8 -m", None),
+]
+MESSAGES = [("-p icmp -m icmp", "--icmp-type"), ("-p ipv6-icmp -m icmp6", "--icmpv6-type")]
+
 # the same for what stands behind -i
 NAMES = [
     ('a"b', '"a\\"b"'), ('a\\"b', '"a\\\\\\"b"'), ("c\\", '"c\\\\"'), ("'it'", "\"'it'\""), ("'it is'", None), ('"\\a\\ b"', '"a b"'), ('"say \\"no\\""', '"say \\"no\\""'),
@@ -52,6 +60,10 @@ def rows():
             yield family, f"-m iprange --src-range {text}", match
     for text, number in PORTS:
         yield 4, f"-p tcp -m tcp --dport {text}", UNKNOWN if number is UNKNOWN else f"-p tcp -m tcp --dport {number}"
+    for text, kind in TYPES:
+        for match, option in MESSAGES:
+            for family, negation in ((4, ""), (6, "! ")):
+                yield family, f"{match} {negation}{option} {text}", f"{match} {negation}{option} {kind}" if kind and kind is not UNKNOWN else kind
     for text, name in NAMES:
         yield 4, f"-i {text}", name and f"-i {name}"
 
@@ -72,4 +84,10 @@ HELD = [
     ("-p tcp -m tcp --tcp-flags FIN,SYN,RST,ACK SYN", SYN, True), ("-p tcp -m tcp --tcp-flags FIN,SYN,RST,ACK SYN,ACK", SYN, False),
     ("-m conntrack --ctstate NEW", SYN, True), ("-m conntrack --ctstate INVALID,RELATED,ESTABLISHED,UNTRACKED", SYN, False),
     *((f"-p {number}", f"proto={name}", True) for name, number in NUMBERS.items()),
+    ("-m icmp --icmp-type 8", "proto=icmp icmp=8", True), ("-m icmp --icmp-type 8", "proto=icmp icmp=0", False), ("-m icmp --icmp-type 8", "proto=58 icmp=8", False),
+    ("-m icmp --icmp-type 8", "proto=tcp icmp=8", False), ("-m icmp ! --icmp-type 8", "proto=tcp icmp=8", True), ("-m icmp ! --icmp-type 8", "proto=icmp icmp=8", False),
+    ("-m icmp ! --icmp-type 8", "proto=icmp icmp=255", True), ("-m icmp --icmp-type 0", "proto=icmp", True), ("-m icmp --icmp-type 8", "proto=icmp", False),
+    ("-m icmp6 --icmpv6-type 128", "proto=ipv6-icmp icmp=128", True), ("-m icmp6 --icmpv6-type 128", "proto=icmp icmp=128", False),
+    ("-m icmp6 ! --icmpv6-type 128", "proto=58 icmp=129", True), ("-m icmp6 --icmpv6-type 0", "proto=58", True),
+    ("-m icmp --icmp-type 8 --icmp-type 0", "proto=icmp icmp=8", False), ("-m icmp --icmp-type 8 -m icmp --icmp-type 8", "proto=icmp icmp=8", True),
 ]

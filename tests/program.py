@@ -175,7 +175,7 @@ LINES = [
     ("-p tcp -m tcp --tcp-flags ALL NONE -j ACCEPT", 0), ("-p tcp -m tcp --tcp-flags SYN,ALL SYN -j ACCEPT", 1), ("-p tcp -m tcp --tcp-flags SYN", None),
     ("-p tcp -m tcp --syn -j ACCEPT", 0), ("-p tcp -m tcp ! --syn -j ACCEPT", 0), ("-m conntrack --ctstate NEW,SNAT -j ACCEPT", 1), ("-m state --state NEW,NEW -j ACCEPT", 0),
     ("-m iprange --src-range 10.0.0.1-10.0.0.9 -j ACCEPT", 0), ("-m iprange --src-range 10.0.0.9-10.0.0.1 -j ACCEPT", 1),
-    ("-m base --sport 1 -j ACCEPT", 1), ("-m base -s 10.0.0.1 -j ACCEPT", 1), ('-m "" -j ACCEPT', 1), ("-m icmp --icmp-type 8 9 -j ACCEPT", 1), ("--x -j ACCEPT", 1), ("-- -j ACCEPT", None), ("-x -j ACCEPT", None),
+    ("-m base --sport 1 -j ACCEPT", 1), ("-m base -s 10.0.0.1 -j ACCEPT", 1), ('-m "" -j ACCEPT', 1), ("--x -j ACCEPT", 1), ("-- -j ACCEPT", None), ("-x -j ACCEPT", None),
     ("", 0), ("-j", None), ("-g", None), ("-g C", 0), ("-g C x", None), ("-j INPUT", "INPUT"), ("-j NFQUEUE --queue-num 1", "NFQUEUE"), ("-j C", 0), ("-j C x", None),
     ("-j ACCEPT x", None), ("-j RETURN", 0), ("-j RETURN x", None), ("-j REJECT", 0), ("-j REJECT --reject-with tcp-reset", 0), ("-j REJECT --reject-with", None),
     ('-j REJECT "--reject-with" x', None), ("-j LOG --log-prefix x -m anything", 0), ('-j "ACCEPT"', 0), ("-j ACCEPT -s 10.0.0.1", None),
@@ -192,6 +192,13 @@ LINES = [
     ("-p sctp -m multiport --ports 1", 0), ("-p tcp -m multiport --dports 1:1,2:2,3:3,4:4,5:5,6:6,7:7,8", 0),
     ("-m conntrack --ctstate NEW,RELATED --ctstate NEW,SNAT", 1), ("-m state --state NEW,", 1), ('-m state --state ""', 1), ("-m state --state RELATED,ESTABLISHED", 0),
     ("-m iprange --src-range 1.0.0.1-1.0.0.9 --dst-range 2.0.0.9-2.0.0.1", 1),
+    ("-p icmp -m icmp --icmp-type 8", 0), ("-p icmp -m icmp ! --icmp-type 8 -j ACCEPT", 0), ("-m icmp --icmp-type 8", 0), ("-m icmp -p icmp --icmp-type 8", 0),
+    ("-m icmp6 --icmpv6-type 128", 0), ("-p ipv6-icmp -m icmp6 ! --icmpv6-type 128 -j DROP", 0), ("! -p icmp -m icmp --icmp-type 8", 0), ("-m icmp --icmp-type 8 --icmp-type 0", 0),
+    ("-m icmp", 0), ("-m icmp6 -j ACCEPT", 0), ("-m icmpv6 -j ACCEPT", 1), ("-p icmp --icmp-type 8", 1), ("-m icmpv6 --icmpv6-type 128", 1), ("-m icmp --icmpv6-type 128", 1),
+    ("-m icmp6 --icmp-type 8", 1), ("-m tcp --icmp-type 8", 1), ("-m icmp --icmp-types 8", 1), ("-m icmp --icmp-type any", 1), ("-m icmp ! --icmp-type echo-request", 1),
+    ("-m icmp --icmp-type any --icmp-type 3", 1), ('-m icmp --icmp-type "-j" -j ACCEPT', 1), ("-m icmp --icmp-type -j", 1), ("-m icmp6 --icmpv6-type ! -j ACCEPT", 1), ("-m icmp --icmp-type 8 9 -j ACCEPT", None), ("-m icmp --icmp-type 8 any", None),
+    ("-m icmp --icmp-type", None), ("-m icmp ! --icmp-type", None), ("-m icmp --icmp-type -j ACCEPT", None), ("-m icmp6 --icmpv6-type", None), ("-m icmp6 --icmpv6-type ! 8", None),
+    ('-m icmp "--icmp-type" 8', None), ("! -m icmp --icmp-type 8", None), ("-m icmp ! ! --icmp-type 8", None),
 ]
 
 # Lines behind `:FORWARD DROP`, and whether they declare a chain.
@@ -300,7 +307,7 @@ def worked():
     check("a name spelled by its bytes", told(run(["explain", "in=hex:00fFAb"], spelled_name)), (0, b"accept under 0\ndrop never\n", b""))
     check("another name spelled by its bytes", told(run(["explain", "in=hex:00fFAc"], spelled_name)), (0, b"accept never\ndrop under 0\n", b""))
     check("a packet with a name that is spelled", told(run(["spoof", "a b=10.0.0.0/8"], cases.SYN_ACK_BY_NAME.encode())), (
-        0, b"hex:612062 violated in=hex:612062 out= src=0.0.0.0 dst=0.0.0.0 proto=6 sport=0 dport=0 flags=SYN,ACK state=NEW\n", b""))
+        0, b"hex:612062 violated in=hex:612062 out= src=0.0.0.0 dst=0.0.0.0 proto=6 sport=0 dport=0 flags=SYN,ACK state=NEW icmp=0\n", b""))
     for name, (words, text, wanted) in cases.LIMITS.items():
         status, out, err = told(run(words.split(), text.encode()))
         if isinstance(wanted, int):

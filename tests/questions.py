@@ -10,7 +10,9 @@ import sys
 import filters
 import walker
 
-SERVICES = ["tcp:1024:22", "tcp:1:80", "udp:53:53", "sctp:1:21", "icmp:0:0", "47:1:2", "0:0:0", "tcp:22:65535"]
+SERVICES = ["tcp:1024:22", "tcp:1:80", "udp:53:53", "sctp:1:21", "icmp:0:0", "ipv6-icmp:1:2", "47:1:2", "0:0:0", "tcp:22:65535"]
+# the type of a message that asks for an echo
+ECHO_REQUESTS = {1: 8, 58: 128}
 CLAIMED = ["eth0", "eth1", "lo", "ppp0", "br-lan", "eth+"]
 ADDRESS_OPTIONS = ("-s", "-d", "--src-range", "--dst-range")
 
@@ -46,7 +48,7 @@ def service_packet(service, source, destination):
     proto, sport, dport = service.split(":")
     number = walker.protocol(proto)
     return {"in": "", "out": "", "src": source, "dst": destination, "proto": number, "sport": int(sport), "dport": int(dport),
-            "flags": 2 if number == 6 else 0, "state": 1}
+            "flags": 2 if number == 6 else 0, "state": 1, "icmp": ECHO_REQUESTS.get(number, 0)}
 
 
 def ranges_text(intervals, family):
@@ -92,7 +94,8 @@ def shown_packet(text):
 
     return {"in": name(fields["in"]), "out": name(fields["out"]), "src": int(walker.ipaddress.ip_address(fields["src"])),
             "dst": int(walker.ipaddress.ip_address(fields["dst"])), "proto": int(fields["proto"]), "sport": int(fields["sport"]),
-            "dport": int(fields["dport"]), "flags": walker.flags(fields["flags"]), "state": walker.STATES.index(fields["state"])}
+            "dport": int(fields["dport"]), "flags": walker.flags(fields["flags"]), "state": walker.STATES.index(fields["state"]),
+            "icmp": int(fields["icmp"])}
 
 
 def spoof_disagreements(program, rng, family, given):

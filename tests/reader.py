@@ -13,7 +13,8 @@ BASE = {b"-s": 1, b"-d": 1, b"-i": 1, b"-o": 1, b"-p": 1, b"-f": 0}
 ROWS = {(b"tcp", b"--sport"): 1, (b"tcp", b"--dport"): 1, (b"udp", b"--sport"): 1, (b"udp", b"--dport"): 1,
         (b"tcp", b"--tcp-flags"): 2, (b"tcp", b"--syn"): 0, (b"multiport", b"--sports"): 1, (b"multiport", b"--dports"): 1,
         (b"multiport", b"--ports"): 1, (b"iprange", b"--src-range"): 1, (b"iprange", b"--dst-range"): 1,
-        (b"state", b"--state"): 1, (b"conntrack", b"--ctstate"): 1, (b"comment", b"--comment"): 1}
+        (b"state", b"--state"): 1, (b"conntrack", b"--ctstate"): 1, (b"comment", b"--comment"): 1, (b"icmp", b"--icmp-type"): 1,
+        (b"icmp6", b"--icmpv6-type"): 1}
 MODULES = {module for module, _ in ROWS}
 PROTOCOLS = {b"icmp": 1, b"igmp": 2, b"tcp": 6, b"udp": 17, b"dccp": 33, b"gre": 47, b"esp": 50, b"ah": 51, b"ipv6-icmp": 58,
              b"icmpv6": 58, b"sctp": 132, b"udplite": 136}
@@ -126,6 +127,8 @@ def option_known(module, option, negated, arguments, line_protocol, family):
         return is_range(arguments[0], family)
     if module in (b"state", b"conntrack"):
         return all(part in STATES for part in arguments[0].split(b","))
+    if module in (b"icmp", b"icmp6"):
+        return number(arguments[0], 254) is not None
     return not negated
 
 

@@ -22,6 +22,9 @@ MATCHES = ["-i eth0", "-i eth+", '-o "a b"', "! -o lo", "-i +", '-i ""', "-p tcp
            "-m conntrack ! --ctstate RELATED,ESTABLISHED", '-m comment --comment "hi -j there"', "-m comment ! --comment x",
            "-m comment", "-m limit --limit 5/sec --limit-burst 3", "-m limit", "-m socket", "-m recent ! --rcheck --name x",
            "--dport 22", "-m", "!", "! -m tcp", "-m base --sport 1", "-m addrtype -s 10.0.0.0/8 --dst-type LOCAL", "--", "--x", '"--x"',
+           "-m icmp --icmp-type 8", "-m icmp ! --icmp-type 254", "-m icmp --icmp-type 255", "-m icmp --icmp-type any", "-m icmp --icmp-type 8 9",
+           "-m icmp --icmp-type", "-m icmp6 --icmpv6-type 128", "-m icmp6 --icmpv6-type 1/0", "-m icmp6 --icmp-type 8", "-m icmp",
+           "-m icmpv6", "-p icmp -m icmp --icmp-type 08", '-m icmp6 ! --icmpv6-type "0"',
            "-m tcp -p tcp", "foo", '-m "tcp" --dport "22"', '-i a"b', '"-s" 1.1.1.1', "-s", "-x"]
 TARGETS = ["-j ACCEPT", "-j DROP", "-j REJECT", "-j REJECT --reject-with tcp-reset", "-j REJECT --reject-with", "-j RETURN",
            '-j LOG --log-prefix "x y"', "-j SET", "-j A", "-j B", "-j C", "-j A x", '-j "a b"', "-j INPUT", "-j NFQUEUE", "-j ACCEPT x",

@@ -89,12 +89,35 @@ def whys():
     out = view("why", sample("firewalld-host.rules"), "in=eth0", "out=eth1", "dst=10.20.0.80", "proto=tcp", "dport=443")[1]
     says("why over a goto", out, "where this holds: -m mark --mark 0x64", "called by line 84: -A FWDI_public -j FWDI_public_allow",
          "by the goto of line 66: -A FORWARD_IN_ZONES -i eth0 -g FWDI_public", "called by line 59: -A FORWARD -j FORWARD_IN_ZONES")
-    says("why of IPv6", view("why", sample("router6.rules"), "proto=ipv6-icmp")[1], "IPv6", "-m icmp6 --icmpv6-type", "called by line 17")
+    types()
     status, _, err = view("why", sample("router.rules"), "dport=22")
     check("a port without a protocol", status, 1)
     says("a port without a protocol", err, "dport=22 without a protocol", "proto=tcp")
     says("a word that is no field", view("why", sample("router.rules"), "port=22")[2], "port=22", "sport, dport")
     says("a field twice", view("why", sample("router.rules"), "in=a", "in=b")[2], "in is given twice")
+
+
+def types():
+    out = view("why", sample("router6.rules"), "proto=ipv6-icmp")[1]
+    says("why of an echo request of IPv6", out, "IPv6: proto=ipv6-icmp icmp=128\n", "note: icmp=128 was added", "line 22: -A icmpv6-forward",
+         "where this holds: -m limit --limit 900/min", "called by line 17")
+    says("why of another type", view("why", sample("router6.rules"), "proto=58", "icmp=1")[1], "accept: yes, where no match holds",
+         "where this holds: -m rt --rt-type 0")
+    says("why of an echo request of IPv4", view("why", sample("router.rules"), "proto=1")[1], "proto=1 icmp=8\n", "note: icmp=8 was added")
+    out = view("why", sample("router.rules"), "proto=icmp", "state=ESTABLISHED")[1]
+    says("why of a message that opens nothing", out, "without icmp= the message is one of type 0", "IPv4: proto=icmp state=ESTABLISHED\n")
+    status, _, err = view("why", sample("router.rules"), "icmp=8")
+    check("a type without a protocol", status, 1)
+    says("a type without a protocol", err, "icmp=8 without a protocol", "proto=icmp")
+    with_code = table("-A FORWARD -p icmp -m icmp --icmp-type 3/4 -j ACCEPT", "-A FORWARD -p icmp -m icmp --icmp-type 3 -j DROP")
+    says("a type with a code", view("why", "-", "proto=icmp", "icmp=3", given=with_code)[1], "line 3: ", "where this holds: -m icmp --icmp-type 3/4")
+    both = table("-A FORWARD -i eth0 -p icmp -m icmp --icmp-type 0 -j ACCEPT", "-A FORWARD -i eth1 -p icmp -m icmp ! --icmp-type 3 -j ACCEPT")
+    text = view("report", "-", "--services", "ping=icmp:0,ipv6-icmp:0", "--claim", "eth0=10.0.0.0/8", "--claim", "eth1=10.0.0.0/8", given=both)[1]
+    found = rows_of(Page(text), f"{THROUGH} / by the interface")
+    check("types by interface", [(found[name]["ping"], found[name]["ipv6-icmp"]) for name in ("eth0", "eth1")], [("no", "no"), ("some may", "no")])
+    check("types by addresses", rows_of(Page(text), f"{THROUGH} / by addresses")["any address \u2192 any address"]["ping"], "some may")
+    says("types in a report", text, "icmp type 8, which asks for an echo", "ipv6-icmp echo", "proto=1 sport=0 dport=0 icmp=0", "fffuu understands every match")
+    says("a packet of tcp has no type in a report", view("report", sample("router.rules"), "--services", "http")[1], "dport=80)")
 
 
 def as_json(*words, **more):
@@ -153,6 +176,10 @@ def jsons():
     _, found = as_json("spoof", sample("antispoof.rules"), "eth0=10.0.0.0/8", "eth1=10.0.0.0/8")
     check("claims", [(claim["interface"], claim["holds"]) for claim in found["claims"]], [("eth0", True), ("eth1", False)])
     check("a packet", (found["claims"][1]["packet"]["in"], found["claims"][1]["packet"]["state"]), ("eth1", "NEW"))
+    _, found = as_json("spoof", "-", "eth0=10.0.0.0/8", given=table("-A FORWARD -p icmp -m icmp --icmp-type 8 -j ACCEPT"))
+    check("a message", [found["claims"][0]["packet"][name] for name in ("proto", "icmp")], ["1", "8"])
+    _, found = as_json("explain", sample("router6.rules"), "proto=ipv6-icmp", "icmp=2")
+    check("a type", (found["packet"], found["accept"]), ({"proto": "ipv6-icmp", "icmp": "2"}, []))
     _, found = as_json("explain", sample("limits.rules"), "src=10.0.0.1")
     check("places", [(step["chain"], step["rule"], step["line"]) for step in found["accept"][0]["steps"]], [("FORWARD", 2, 8), ("L", 1, 9)])
     check("their match", (found["accept"][0]["match"], found["drop"]), ("-m limit --limit 5/min", []))

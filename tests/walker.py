@@ -9,6 +9,7 @@ FLAGS = ["FIN", "SYN", "RST", "PSH", "ACK", "URG"]
 STATES = ["INVALID", "NEW", "RELATED", "ESTABLISHED", "UNTRACKED"]
 PROTOCOLS = {name.decode(): number for name, number in reader.PROTOCOLS.items()}
 PORTS = (6, 17, 33, 132, 136)
+MESSAGES = {("icmp", "--icmp-type"): 1, ("icmp6", "--icmpv6-type"): 58}
 PASSING = {name.decode() for name in reader.PASSING}
 
 
@@ -86,6 +87,9 @@ def module_test(module, option, arguments, number):
     if (module, option) in (("state", "--state"), ("conntrack", "--ctstate")):
         wanted = [STATES.index(part) if part in STATES else None for part in arguments[0].split(",")]
         return None if None in wanted else lambda p: p["state"] in wanted
+    if (module, option) in MESSAGES:
+        kind = reader.number(arguments[0].encode(), 254)
+        return None if kind is None else lambda p: p["proto"] == MESSAGES[module, option] and p["icmp"] == kind
     if module == "comment":
         return lambda p: True
     return None

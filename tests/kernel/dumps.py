@@ -3,7 +3,7 @@ import dataclasses
 import ipaddress
 
 from lab import NAMES
-from packets import Packet
+from packets import Packet, WITH_PORTS, WITH_TYPES
 
 PATTERNS = [*NAMES, "eth+", "eth1+", "pp+", "w+"]
 UNKNOWN = ["-m limit --limit 5/sec --limit-burst 5", "-m recent --rcheck --name seen --rsource", "-m statistic --mode random --probability 0.5",
@@ -11,25 +11,33 @@ UNKNOWN = ["-m limit --limit 5/sec --limit-burst 5", "-m recent --rcheck --name 
 PORT_WORDS = ["22", "80", "1024:65535", "0:21", "53", "65535", "443:444"]
 LISTS = ["80,443", "22,25,80:90", "0:9,11:19,21:29", "53", "1,3,5,7,9,11,13,15,17,19,21,23,25,27,29", "1024:65535,80"]
 PORTS = [0, 1, 9, 10, 21, 22, 23, 25, 53, 79, 80, 85, 90, 91, 443, 444, 445, 1023, 1024, 65535]
-PROTOCOLS = ["tcp", "tcp", "tcp", "udp", "udp", "icmp", "sctp", "47", "dccp", "udplite", "esp", "igmp"]
-NUMBERS = [1, 2, 6, 6, 6, 17, 17, 33, 47, 50, 51, 58, 89, 132, 136, 255]
+PROTOCOLS = ["tcp", "tcp", "tcp", "udp", "udp", "icmp", "icmp", "icmp", "sctp", "47", "dccp", "udplite", "esp", "igmp"]
+NUMBERS = [1, 1, 1, 1, 2, 6, 6, 6, 17, 17, 33, 47, 50, 51, 58, 89, 132, 136, 255]
 FLAG_TESTS = ["--syn", "--tcp-flags SYN,ACK SYN", "--tcp-flags ALL NONE", "--tcp-flags FIN,RST FIN", "--tcp-flags SYN,RST,ACK,FIN,PSH,URG SYN,ACK"]
 STATES = ["INVALID", "NEW", "RELATED", "ESTABLISHED", "UNTRACKED"]
 LINES = {4: ["0.0.0.5", "9.255.255.255", "10.0.0.0", "10.0.0.1", "10.0.1.0", "10.255.255.255", "11.0.0.0", "192.168.1.7", "192.168.1.8", "223.255.255.255"],
          6: ["2001:db8::", "2001:db8::1", "2001:db8::2", "2001:db8:0:1::", "2001:db8:ffff:ffff:ffff:ffff:ffff:ffff", "2001:db9::", "fc00::1", "fec0::1"]}
 LENGTHS = {4: [1, 7, 8, 24, 31, 32], 6: [1, 31, 32, 64, 127, 128]}
+# Types of ICMP messages as a rule may spell them, and spellings that stay unknown; types that packets have, and codes.
+MESSAGES = {4: "-p icmp -m icmp {}--icmp-type {}", 6: "-p ipv6-icmp -m icmp6 {}--icmpv6-type {}"}
+TYPE_WORDS = {4: ["0", "3", "5", "8", "8", "echo-request", "13", "17", "30", "254", "redirect", "0x0b"],
+              6: ["1", "2", "127", "128", "128", "echo-request", "129", "133", "neighbour-solicitation", "254", "0x03"]}
+UNKNOWN_TYPES = {4: ["3/1", "8/0", "any", "host-unreachable"], 6: ["1/0", "128/0", "255", "no-route"]}
+TYPES = {4: [0, 1, 3, 3, 4, 5, 8, 8, 8, 9, 11, 13, 14, 17, 30, 254, 255], 6: [0, 1, 1, 2, 3, 127, 128, 128, 128, 129, 133, 135, 254, 255]}
+CODES = [0, 0, 0, 1, 4, 255]
 REFUSALS = {4: "icmp-port-unreachable", 6: "icmp6-port-unreachable"}
 
 
 @dataclasses.dataclass(frozen=True)
 class Corners:
-    """What packets are drawn from: names of interfaces, addresses, whose neighbours are drawn too, and ports."""
+    """What packets are drawn from: names of interfaces, addresses, whose neighbours are drawn too, ports, and types of ICMP messages."""
     names: list
     addresses: list
     ports: list
+    types: list
 
 
-CORNERS = {family: Corners(NAMES, LINES[family], PORTS) for family in (4, 6)}
+CORNERS = {family: Corners(NAMES, LINES[family], PORTS, TYPES[family]) for family in (4, 6)}
 
 
 def maybe_not(rng):
@@ -57,10 +65,22 @@ def ports_match(rng, name, negated):
     return found
 
 
-def protocol_match(rng, family):
+def message_match(rng, family, kind):
+    """A test of the type of ICMP messages; in a few cases two of them, which hold together."""
+    words = UNKNOWN_TYPES[family] if kind.unknown and rng.random() < 0.4 else TYPE_WORDS[family]
+    found = MESSAGES[family].format(maybe_not(rng), rng.choice(words))
+    if rng.random() < 0.15:
+        second = MESSAGES[family].format(maybe_not(rng), rng.choice(TYPE_WORDS[family]))
+        found += second[second.index(" -m"):]
+    return [found]
+
+
+def protocol_match(rng, family, kind):
     name = rng.choice(PROTOCOLS)
-    name = "ipv6-icmp" if name == "icmp" and family == 6 else name
     negated = rng.random() < 0.25
+    if name == "icmp" and not negated and rng.random() < 0.75:
+        return message_match(rng, family, kind)
+    name = "ipv6-icmp" if name == "icmp" and family == 6 else name
     return [f"{'! ' if negated else ''}-p {name}", *ports_match(rng, name, negated)]
 
 
@@ -72,7 +92,7 @@ def matches(rng, family, kind):
         if kind.names and rng.random() < 0.25:
             found.append(f"{maybe_not(rng)}{side} {rng.choice(PATTERNS)}")
     if rng.random() < 0.6:
-        found += protocol_match(rng, family)
+        found += protocol_match(rng, family, kind)
     if kind.states and rng.random() < 0.4:
         found.append(f"-m {rng.choice(['conntrack {}--ctstate', 'state {}--state']).format(maybe_not(rng))} {','.join(rng.sample(STATES, rng.choice([1, 1, 2, 3])))}")
     if rng.random() < 0.1:
@@ -148,7 +168,8 @@ def packet(rng, family, corners=None):
     number = rng.choice(NUMBERS)
     # which number is the protocol behind an authentication header of IPv6 is a case of borders.py
     number = {1: 58, 51: 50}.get(number, number) if family == 6 else number
-    with_ports = number in (6, 17, 33, 132, 136)
+    sport, dport = (rng.choice(corners.ports), rng.choice(corners.ports)) if number in WITH_PORTS else (0, 0)
+    flags = rng.choice([2, 2, 16, 18, 0, 1, 17, 63, rng.randrange(64)]) if number == 6 else 0
+    kind, code = (rng.choice(corners.types), rng.choice(CODES)) if number in WITH_TYPES else (0, 0)
     return Packet(family, rng.choice(corners.names), rng.choice(corners.names), address(rng, family, corners), address(rng, family, corners), number,
-                  rng.choice(corners.ports) if with_ports else 0, rng.choice(corners.ports) if with_ports else 0,
-                  rng.choice([2, 2, 16, 18, 0, 1, 17, 63, rng.randrange(64)]) if number == 6 else 0)
+                  sport, dport, flags, kind, code)

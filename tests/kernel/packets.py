@@ -5,6 +5,10 @@ import struct
 
 FLAGS = ["FIN", "SYN", "RST", "PSH", "ACK", "URG"]
 WITH_PORTS = (6, 17, 33, 132, 136)
+WITH_TYPES = (1, 58)
+# The type that asks for an echo, by the protocol's number, and the type of the answer to each type that asks for something.
+ECHO = {1: 8, 58: 128}
+ANSWERS = {1: {8: 0, 13: 14, 15: 16, 17: 18}, 58: {128: 129}}
 
 
 def sum_of(data):
@@ -35,13 +39,15 @@ class Packet:
     sport: int = 0
     dport: int = 0
     flags: int = 0
+    icmp: int = 0
+    code: int = 0
 
     def fields(self):
         """The words of `explain` for this packet."""
         text = ipaddress.IPv4Address if self.family == 4 else ipaddress.IPv6Address
         names = ",".join(name for at, name in enumerate(FLAGS) if self.flags >> at & 1) or "NONE"
         return [f"in={self.into}", f"out={self.out}", f"src={text(self.src)}", f"dst={text(self.dst)}", f"proto={self.proto}",
-                f"sport={self.sport}", f"dport={self.dport}", f"flags={names}"]
+                f"sport={self.sport}", f"dport={self.dport}", f"flags={names}", f"icmp={self.icmp}"]
 
     def ends(self):
         size = 4 if self.family == 4 else 16
@@ -71,13 +77,17 @@ class Packet:
         if self.proto == 132:
             chunk = struct.pack(">BBHIIHHI", 1, 0, 20, 7, 65536, 1, 1, 1000)
             return ports + struct.pack(">I", 0) + crc32c(ports + b"\0" * 8 + chunk) + chunk
-        if self.proto == 1:
-            return icmp(8, b"")
-        if self.proto == 58:
-            return self.with_sum(struct.pack(">BBHHH", 128, 0, 0, 1, 1), 2)
+        if self.proto in WITH_TYPES:
+            return self.message(struct.pack(">HH", 1, 1))
         if self.proto == 47:
             return struct.pack(">HH", 0, 0x0800) + b"\0" * 8
         return b"\0" * 16
+
+    def message(self, rest):
+        """An ICMP message of the packet's type and code; the sum of icmp leaves the addresses out."""
+        body = struct.pack(">BBH", self.icmp, self.code, 0) + rest
+        pseudo = self.pseudo(len(body)) if self.proto == 58 else b""
+        return body[:2] + struct.pack(">H", sum_of(pseudo + body)) + body[4:]
 
     def frame(self, mark, tos):
         body = self.body()
@@ -117,16 +127,15 @@ class Datagram(Packet):
         return super().is_in(data)
 
 
+def answer_to(packet):
+    """The packet of the other way, as one that answers."""
+    flags = 18 if packet.proto == 6 else 0
+    kind = ANSWERS.get(packet.proto, {}).get(packet.icmp, packet.icmp)
+    return Packet(packet.family, packet.out, packet.into, packet.dst, packet.src, packet.proto, packet.dport, packet.sport, flags, kind)
+
+
 def error_of(packet, src):
     """The ICMP error by which a router at this source answers a packet: its destination can't be reached."""
-    quoted = packet.frame(1, 0)
-    number, words = (1, (3, 1)) if packet.family == 4 else (58, (1, 0))
-    made = Datagram(packet.family, packet.out, packet.into, src, packet.src, number)
-    body = struct.pack(">BBHI", *words, 0, 0) + quoted
-    pseudo = b"" if packet.family == 4 else made.pseudo(len(body))
-    return dataclasses.replace(made, given=body[:2] + struct.pack(">H", sum_of(pseudo + body)) + body[4:])
-
-
-def icmp(kind, _):
-    body = struct.pack(">BBHHH", kind, 0, 0, 1, 1)
-    return body[:2] + struct.pack(">H", sum_of(body)) + body[4:]
+    number, kind, code = (1, 3, 1) if packet.family == 4 else (58, 1, 0)
+    made = Datagram(packet.family, packet.out, packet.into, src, packet.src, number, icmp=kind, code=code)
+    return dataclasses.replace(made, given=made.message(bytes(4) + packet.frame(1, 0)))

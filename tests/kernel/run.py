@@ -27,7 +27,7 @@ import dumps
 import samples
 import spellings
 from lab import LONGEST, Lab, NAMES, Refused, TOOLS, lacking
-from packets import FLAGS, Packet, error_of
+from packets import ECHO, FLAGS, Packet, answer_to, error_of
 
 
 @dataclasses.dataclass(frozen=True)
@@ -124,6 +124,7 @@ class Comparison:
     def drawn(self, rng, tool, family, with_states, corners=None):
         """Packets that the router forwards, and the state of each where states are wanted, else None."""
         packets = self.sent([dumps.packet(rng, family, corners) for _ in range(self.count)])
+        self.numbers["ICMP messages that are drawn"] += sum(it.proto in ECHO for it in packets)
         if with_states:
             return self.with_states(rng, packets, tool, family, corners)
         return packets, [None] * len(packets)
@@ -152,7 +153,7 @@ class Comparison:
         name = self.lab.names[len(self.lab.names) // 2]
         self.lab.restore(tool, family, f"*raw\n:PREROUTING ACCEPT [0:0]\n-A PREROUTING -i {name} -d {half} -j CT --notrack\nCOMMIT\n")
         self.lab.restore(tool, family, f"*mangle\n:FORWARD ACCEPT [0:0]\n{measure}COMMIT\n")
-        answers = [Packet(family, it.out, it.into, it.dst, it.src, it.proto, it.dport, it.sport, 18 if it.proto == 6 else 0) for it in packets[::3]]
+        answers = [answer_to(it) for it in packets[::3]]
         errors = [error_of(it, dumps.address(rng, family, corners)) for it in packets[1::3]]
         self.lab.forwarded([*packets, *answers])
         packets = [*packets, *errors]
@@ -239,8 +240,8 @@ class Comparison:
     def matrix(self, rng, family, tool, saved, kind, case):
         """Between the ends of each two classes the service's packet passes exactly where an edge stands; where some match may be unknown,
         as that of a name is, it passes only where an edge of the upper matrix stands, and everywhere where one of the lower does."""
-        proto, side = rng.choice([6, 17]), rng.choice(["upper", "lower"])
-        sport, dport = rng.choice(dumps.PORTS), rng.choice(dumps.PORTS)
+        proto, side = rng.choice([6, 17, 1 if family == 4 else 58]), rng.choice(["upper", "lower"])
+        sport, dport = (0, 0) if proto in ECHO else (rng.choice(dumps.PORTS), rng.choice(dumps.PORTS))
         status, text, line = self.answer("matrix", family, saved, "--side", side, f"{proto}:{sport}:{dport}")
         if status != 0:
             self.numbers[f"matrix refused: {line}"] += 1
@@ -248,7 +249,7 @@ class Comparison:
         self.numbers["matrices"] += 1
         classes, edges = matrix_of(text)
         ends = [rng.sample(it, min(len(it), 2)) for it in classes]
-        asked = [(a, b, Packet(family, rng.choice(NAMES), rng.choice(NAMES), src, dst, proto, sport, dport, 2 if proto == 6 else 0))
+        asked = [(a, b, Packet(family, rng.choice(NAMES), rng.choice(NAMES), src, dst, proto, sport, dport, 2 if proto == 6 else 0, ECHO.get(proto, 0)))
                  for a, sources in enumerate(ends) for b, targets in enumerate(ends) for src in sources for dst in targets]
         asked = rng.sample(asked, min(len(asked), 60))
         loaded = self.passing([it for _, _, it in asked])
@@ -319,7 +320,8 @@ def packet_of(family, words):
     fields = dict(word.split("=", 1) for word in words)
     flags = sum(1 << FLAGS.index(it) for it in fields["flags"].split(",") if it != "NONE")
     src, dst = (int(ipaddress.ip_address(fields[it])) for it in ("src", "dst"))
-    return Packet(family, fields["in"], NAMES[0], src, dst, int(fields["proto"]), int(fields["sport"]), int(fields["dport"]), flags)
+    return Packet(family, fields["in"], NAMES[0], src, dst, int(fields["proto"]), int(fields["sport"]), int(fields["dport"]), flags,
+                  int(fields["icmp"]))
 
 
 def can_be(text, unknown, passes):

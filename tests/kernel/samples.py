@@ -6,7 +6,7 @@ import pathlib
 import random
 import re
 
-from dumps import Corners, LINES
+from dumps import Corners, LINES, TYPES
 from lab import Lab, Refused, TOOLS
 
 FOLDER = pathlib.Path(__file__).resolve().parents[2] / "samples"
@@ -31,7 +31,7 @@ def in_place_of_forward(lines, chain):
 
 
 def corners_of(lines, family):
-    """What packets are drawn from: the names, the ends of networks and ranges, and the ports that the lines speak of, and some others."""
+    """What packets are drawn from: the names, the ends of networks and ranges, the ports and the types of ICMP messages that the lines speak of, and some others."""
     text = "\n".join(lines)
     names = [it.replace("+", "7") for it in re.findall(r" -[io] (\S+)", text)]
     addresses = list(LINES[family])
@@ -42,7 +42,8 @@ def corners_of(lines, family):
         addresses += word.split("-") * 2
     ports = {int(port) for word in re.findall(r"ports? ([0-9,:]+)", text) for port in re.split("[,:]", word)}
     near = sorted({port + step for port in ports for step in (-1, 0, 0, 1) if 0 <= port + step <= 65535} | {1024, 40000})
-    return Corners([it for it in dict.fromkeys([*names, *OTHERS]) if it != "lo"][:7], addresses, near)
+    types = [int(word) for word in re.findall(r"--icmp(?:v6)?-type (\d+)", text)]
+    return Corners([it for it in dict.fromkeys([*names, *OTHERS]) if it != "lo"][:7], addresses, near, [*types, *types, *TYPES[family]])
 
 
 def load(comparison, tool, family, lines, name):

@@ -74,10 +74,13 @@ LINE_ALONE = (
     (LINES, "use crate::protocols::", "use crate::pieces::is_same;\nuse crate::protocols::"),
 )
 LENGTH = ("crates/addr_text/src/nets.rt", "return Some(Some(len));", "return Some(Some(W - len));")
-RETURN = ("crates/closure/src/rows.rt", "(ActionKind::GoBack, false, _) => Row::Leave(0)", "(ActionKind::GoBack, false, _) => Row::Leave(1)")
+RETURN = ("crates/rewriting/src/rows.rt", "(ActionKind::GoBack, false, _) => Row::Leave(0)", "(ActionKind::GoBack, false, _) => Row::Leave(1)")
 
-GOTO = ("crates/closure/src/parts.rt", "ActionKind::GoTo(*target)", "ActionKind::CallTo(*target)")
-DOUBTFUL_GOTO = ("crates/closure/src/rows.rt", "Row::RunLater(target)", "Row::Run(target, Mode::Soft(0))")
+GOTO = ("crates/rewriting/src/kinds.rt", "ActionKind::GoTo(*target)", "ActionKind::CallTo(*target)")
+DOUBTFUL_GOTO = ("crates/rewriting/src/rows.rt", "Row::RunLater(target)", "Row::Run(target, Mode::Soft(0))")
+OF_PROTOCOL_1 = ("crates/opt_table/src/kind.rt", "Messages::Icmpv6 => 58,", "Messages::Icmpv6 => 1,")
+OTHER_TYPES = ("crates/box_norm/src/pieces.rt", "minus_number(alloc, &cube.icmp, message.kind)?", "Set::range(alloc, 0, 255)?")
+OTHER_PROTOCOLS = ("crates/box_norm/src/pieces.rt", "let others = minus_number(alloc, &cube.proto, message.proto)?;", "let others = Set::empty(alloc);")
 
 READINGS = [
     Reading("a length of a network counted from the other end", (LENGTH,), True),
@@ -85,6 +88,10 @@ READINGS = [
     Reading("a RETURN of a called chain that ends the calling one too", (RETURN,), True),
     Reading("a goto that comes back as a call does", (GOTO,), True),
     Reading("a doubtful goto that comes back as a call does", (DOUBTFUL_GOTO,), True, 5),
+    Reading("a type of ipv6-icmp read as one of icmp", (OF_PROTOCOL_1,), True),
+    Reading("types that a rule leaves out and that come back", (OTHER_TYPES,), True),
+    # the tools take a test of types behind its protocol alone, which is cut before
+    Reading("other protocols that a negated type loses", (OTHER_PROTOCOLS,), False),
     # the tools take a test of flags behind `-p tcp` alone, and that one is read as it was
     Reading("a flag test without its protocol on a line that has it", (TEST_ALONE,), False),
 ]

@@ -19,7 +19,7 @@ _fffuu_view() {
     fi
     local words="--program --family --help"
     case ${COMP_WORDS[1]} in
-        why) words="$words --chain in= out= src= dst= proto= sport= dport= flags= state=" ;;
+        why) words="$words --chain in= out= src= dst= proto= sport= dport= flags= state= icmp=" ;;
         json) words="$words --chain --side"; [ "$COMP_CWORD" -eq 2 ] && words="check upper lower matrix spoof explain" ;;
         graph) words="$words --chain --side --format --names --output" ;;
         report) words="$words --services --names --claim --claim-chain --output" ;;

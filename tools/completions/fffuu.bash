@@ -12,7 +12,7 @@ _fffuu() {
     else
         case ${COMP_WORDS[1]} in
             matrix) words="$words --side" ;;
-            explain) words="$words in= out= src= dst= proto= sport= dport= flags= state="; compopt -o nospace ;;
+            explain) words="$words in= out= src= dst= proto= sport= dport= flags= state= icmp="; compopt -o nospace ;;
             load) words="" ;;
         esac
     fi

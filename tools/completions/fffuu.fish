@@ -10,4 +10,4 @@ complete -c fffuu -n __fish_use_subcommand -a load -d 'a generated dump, for tim
 complete -c fffuu -l chain -x -a 'INPUT FORWARD OUTPUT' -d 'the asked chain'
 complete -c fffuu -l family -x -a '4 6' -d 'IPv4 or IPv6'
 complete -c fffuu -l side -x -a 'upper lower' -d 'side of a matrix'
-complete -c fffuu -n '__fish_seen_subcommand_from explain' -a 'in= out= src= dst= proto= sport= dport= flags= state='
+complete -c fffuu -n '__fish_seen_subcommand_from explain' -a 'in= out= src= dst= proto= sport= dport= flags= state= icmp='

@@ -9,7 +9,7 @@ from .addresses import Ranges
 from .asking import Asked
 from .dump import Rule, interfaces
 from .program import Matrix
-from .services import Service
+from .services import ECHO_TYPES, Service
 from .trouble import Trouble
 
 MOST_GROUPS = 4
@@ -170,6 +170,9 @@ def front_of(chain: str, service: Service) -> Tuple[str, ...]:
         lines.append(f"-A {chain} -p {service.protocol} -m multiport ! --dports {service.port} -j DROP")
     if service.protocol == "tcp":
         lines.append(f"-A {chain} -p tcp -m tcp ! --tcp-flags FIN,SYN,RST,ACK SYN -j DROP")
+    if service.echo_type() is not None:
+        module, option = ("icmp", "--icmp-type") if service.protocol in ("icmp", "1") else ("icmp6", "--icmpv6-type")
+        lines.append(f"-A {chain} -p {service.protocol} -m {module} ! {option} {service.echo_type()} -j DROP")
     return tuple(lines)
 
 
@@ -185,8 +188,9 @@ def interface_cells(asked: Asked, chain: str, service: Service, names: List[Tupl
 
 
 def packet_shown(packet: Dict[str, str]) -> str:
-    """A packet as the program shows it."""
-    return "for example " + " ".join(f"{name}={value}" for name, value in packet.items() if name not in ("flags", "state"))
+    """A packet as the program shows it; its type where its protocol has types."""
+    hidden = ("flags", "state") if packet.get("proto") in ECHO_TYPES else ("flags", "state", "icmp")
+    return "for example " + " ".join(f"{name}={value}" for name, value in packet.items() if name not in hidden)
 
 
 def names_interface(rules: List[Rule], name: str) -> bool:

@@ -8,6 +8,7 @@ from typing import Callable, List, Optional, Tuple
 from . import NOTE, addresses, fleet, graph, json_out, report, version, why
 from . import program as programs
 from .asking import Asked, open_dump
+from .refusal import FIELDS
 from .services import named_ports, read_services
 from .trouble import Trouble
 
@@ -58,7 +59,7 @@ def parser() -> argparse.ArgumentParser:
     subs = top.add_subparsers(dest="command", metavar="COMMAND", required=True)
     one = add(subs, "why", "what decides one packet, with lines of the dump", run_why, "fffuu-view why dump.v4 --chain INPUT in=eth0 proto=tcp dport=22")
     one.add_argument("dump", metavar="DUMP", help=DUMP)
-    one.add_argument("fields", nargs="*", metavar="FIELD=VALUE", help="in, out, src, dst, proto, sport, dport, flags, state")
+    one.add_argument("fields", nargs="*", metavar="FIELD=VALUE", help=", ".join(FIELDS))
     one = add(subs, "json", "an answer of the program as JSON", run_json, "fffuu-view json matrix dump.v4 tcp:40000:22 --side lower")
     one.add_argument("mode", choices=("check", "upper", "lower", "matrix", "spoof", "explain"))
     one.add_argument("dump", metavar="DUMP", help=DUMP)

@@ -12,7 +12,7 @@ BUILT_IN = ("INPUT", "FORWARD", "OUTPUT")
 BASE = {"-s": 1, "-d": 1, "-i": 1, "-o": 1, "-p": 1, "-f": 0}
 # Modules of which each option that is understood has a known number of arguments; they alone give no match of their own.
 ARGUMENTS = {("tcp", "--tcp-flags"): 2, ("tcp", "--syn"): 0}
-PLAIN_MODULES = ("tcp", "udp", "multiport", "iprange", "state", "conntrack", "comment")
+PLAIN_MODULES = ("tcp", "udp", "multiport", "iprange", "state", "conntrack", "comment", "icmp", "icmp6")
 GOES_ON = ("LOG", "NFLOG", "ULOG", "MARK", "CONNMARK", "TCPMSS", "SET")
 COUNTER = re.compile(r"\[[0-9]+:[0-9]+\]$")
 

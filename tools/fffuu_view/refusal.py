@@ -12,6 +12,7 @@ LONG_WORDS = {"--jump": "-j", "--goto": "-g", "--in-interface": "-i", "--out-int
               "--destination": "-d", "--dst": "-d", "--protocol": "-p", "--proto": "-p", "--match": "-m", "--fragments": "-f",
               "--append": "-A", "--destination-port": "--dport", "--source-port": "--sport", "--destination-ports": "--dports",
               "--source-ports": "--sports"}
+FIELDS = ("in", "out", "src", "dst", "proto", "sport", "dport", "flags", "state", "icmp")
 TARGETS = ("ACCEPT", "DROP", "REJECT", "RETURN", *GOES_ON)
 COMMANDS = {"-N": "a command that makes a chain", "-P": "a command that sets a policy", "-I": "a command that inserts a rule",
             "-X": "a command", "-F": "a command", "-D": "a command that takes a rule out", "-R": "a command"}
@@ -228,12 +229,12 @@ def limit(dump: Dump, said: str, line: int, chain: str, family: int) -> str:
 
 
 def refuse_fields(fields: List[str]) -> None:
-    """Stops a packet that gives a port without a protocol, or a word that is no field."""
+    """Stops a packet that gives a port or a type without a protocol, or a word that is no field."""
     given = {}
     for word in fields:
         name, equals, value = word.partition("=")
-        if not equals or name not in ("in", "out", "src", "dst", "proto", "sport", "dport", "flags", "state"):
-            raise Trouble(f"{word}: a packet is given by words FIELD=VALUE, with the fields in, out, src, dst, proto, sport, dport, flags, state", 1)
+        if not equals or name not in FIELDS:
+            raise Trouble(f"{word}: a packet is given by words FIELD=VALUE, with the fields {', '.join(FIELDS)}", 1)
         if name in given:
             raise Trouble(f"{name} is given twice", 1)
         given[name] = value
@@ -241,6 +242,9 @@ def refuse_fields(fields: List[str]) -> None:
     if ports and "proto" not in given:
         raise Trouble(f"{ports[0]}={given[ports[0]]} without a protocol: add proto=tcp or proto=udp (without proto the program asks about "
                       "protocol 0, which has no ports)", 1)
+    if "icmp" in given and "proto" not in given:
+        raise Trouble(f"icmp={given['icmp']} without a protocol: add proto=icmp or proto=ipv6-icmp (without proto the program asks about "
+                      "protocol 0, whose packets have no type that a rule tests)", 1)
 
 
 def first_line(trouble: Optional[Trouble]) -> str:

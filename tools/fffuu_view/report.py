@@ -81,9 +81,8 @@ def head_section(asked: Asked, wanted: Wanted, tables: Dict[str, object]) -> Lis
 
 
 def service_heads(services: List[Service], first: str, any_source: bool) -> List[str]:
-    """The heads of a table by services, with the ports that were asked of."""
-    return [page.head(first)] + [page.head(service.name, service.protocol, f"{'any' if any_source else service.source}\u2192{service.port}")
-                                 for service in services]
+    """The heads of a table by services, with the ports or the type that were asked of."""
+    return [page.head(first)] + [page.head(service.name, service.protocol, service.short(any_source)) for service in services]
 
 
 def cell_table(services: List[Service], first: str, labels: List[str], found: List[List[Cell]], any_source: bool) -> str:
@@ -92,8 +91,7 @@ def cell_table(services: List[Service], first: str, labels: List[str], found: Li
     for at, label in enumerate(labels):
         row = [page.row_head(label)]
         for service, column in zip(services, found):
-            source = "any source port" if any_source else f"source port {service.source}"
-            note = f"{label}: {service.protocol} port {service.port} from {source}: {column[at].word}"
+            note = f"{label}: {service.long(any_source)}: {column[at].word}"
             row.append(page.cell(column[at].word, note + (f" ({column[at].note})" if column[at].note else "")))
         rows.append(row)
     return page.table(service_heads(services, first, any_source), rows, "cells")
@@ -163,11 +161,12 @@ def flow_lines(asked: Asked, wanted: Wanted, cell: Cell, row: Row) -> List[str]:
 
 
 def services_shown(services: List[Service]) -> str:
-    """Services with the source ports that they were asked from, one after the other."""
-    by_source: Dict[int, List[str]] = {}
+    """Services with the source ports that they were asked from, or their type, one after the other."""
+    by_way: Dict[str, List[str]] = {}
     for service in services:
-        by_source.setdefault(service.source, []).append(service.name)
-    return "; ".join(f"{', '.join(names)} (from port {source})" for source, names in by_source.items())
+        kind = service.echo_type()
+        by_way.setdefault(f"from port {service.source}" if kind is None else f"type {kind}", []).append(service.name)
+    return "; ".join(f"{', '.join(names)} ({way})" for way, names in by_way.items())
 
 
 def whole_row(cell: Cell, row: Row) -> bool:

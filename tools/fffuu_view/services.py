@@ -1,4 +1,4 @@
-"""The services that tables ask about: a name, a protocol, and the two ports of the first packet."""
+"""The services that tables ask about: a name, a protocol, and the two ports of the first packet, or of ICMP its type."""
 import re
 from dataclasses import dataclass
 from typing import List, Optional
@@ -9,6 +9,9 @@ from .trouble import Trouble
 SOURCE_PORT = 40000
 USUAL = [("ssh", "tcp", 22), ("smtp", "tcp", 25), ("dns", "udp", 53), ("http", "tcp", 80), ("https", "tcp", 443), ("smb", "tcp", 445),
          ("mysql", "tcp", 3306), ("rdp", "tcp", 3389)]
+
+# The type of the message that asks for an echo, for each word for a protocol that has types.
+ECHO_TYPES = {"icmp": 8, "1": 8, "ipv6-icmp": 128, "icmpv6": 128, "58": 128}
 
 
 @dataclass(frozen=True)
@@ -22,6 +25,22 @@ class Service:
     def words(self) -> str:
         """As `matrix` reads it."""
         return f"{self.protocol}:{self.source}:{self.port}"
+
+    def echo_type(self) -> Optional[int]:
+        """The type that `matrix` asks about where messages of the protocol have types."""
+        return ECHO_TYPES.get(self.protocol)
+
+    def short(self, any_source: bool) -> str:
+        """What is asked about, for the head of a table."""
+        kind = self.echo_type()
+        return f"type {kind}" if kind is not None else f"{'any' if any_source else self.source}\u2192{self.port}"
+
+    def long(self, any_source: bool) -> str:
+        """The same with the protocol, in words."""
+        kind = self.echo_type()
+        if kind is not None:
+            return f"{self.protocol} type {kind}, which asks for an echo"
+        return f"{self.protocol} port {self.port} from {'any source port' if any_source else f'source port {self.source}'}"
 
 
 def usual() -> List[Service]:
@@ -48,7 +67,8 @@ def read_service(text: str) -> Service:
         raise Trouble(f"{text}: a service is one of {known}, or PROTO:PORT, or PROTO:SOURCEPORT:PORT, with NAME= before it where it "
                       "has a name, as web=tcp:40000:8080", 1)
     source = int(found.group(2)) if found.group(2) else SOURCE_PORT
-    return Service(name or f"{found.group(1)} {found.group(3)}", found.group(1), source, int(found.group(3)))
+    called = f"{found.group(1)} {'echo' if found.group(1) in ECHO_TYPES else found.group(3)}"
+    return Service(name or called, found.group(1), source, int(found.group(3)))
 
 
 def named_ports(rules: List[Rule], most: int) -> List[Service]:

@@ -6,14 +6,24 @@ from . import refusal
 from .asking import Asked
 from .dump import Rule
 from .program import Explanation, Place
+from .services import ECHO_TYPES
 
 
 def packet_words(fields: List[str]) -> List[str]:
-    """The fields that are asked: those given, and for a tcp packet that opens a connection the flag SYN."""
+    """The fields that are asked: those given, and those that a packet has which opens a connection."""
     refusal.refuse_fields(fields)
-    given = dict(word.split("=", 1) for word in fields)
-    opens = given.get("proto") in ("tcp", "6") and given.get("state", "NEW") == "NEW"
-    return fields + (["flags=SYN"] if opens and "flags" not in given else [])
+    return fields + opening_words(dict(word.split("=", 1) for word in fields))
+
+
+def opening_words(given: Dict[str, str]) -> List[str]:
+    """For a packet of state NEW the flag SYN where it is of tcp, or the type that asks for an echo where its messages have types,
+    unless they are given."""
+    if given.get("state", "NEW") != "NEW":
+        return []
+    protocol = given.get("proto", "")
+    if protocol in ("tcp", "6"):
+        return [] if "flags" in given else ["flags=SYN"]
+    return [] if "icmp" in given or protocol not in ECHO_TYPES else [f"icmp={ECHO_TYPES[protocol]}"]
 
 
 def explain(asked: Asked, chain: str, words: List[str]) -> Explanation:
@@ -63,8 +73,12 @@ def outcome(found: Explanation) -> str:
 def notes(given: Dict[str, str], asked_words: List[str], fields: List[str]) -> List[str]:
     """What a reader may miss in the packet that was asked about."""
     found = []
-    if len(asked_words) > len(fields):
-        found.append("flags=SYN was added: the first packet of a tcp connection; give flags= to ask of another one")
+    for word in asked_words[len(fields):]:
+        name = word.partition("=")[0]
+        which = "the first packet of a tcp connection" if name == "flags" else "the message that asks for an echo"
+        found.append(f"{word} was added: {which}; give {name}= to ask of another one")
+    if given.get("proto") in ECHO_TYPES and "icmp" not in given:
+        found.append("without icmp= the message is one of type 0")
     if "proto" not in given:
         found.append("without proto= the packet is one of protocol 0, which no tcp, udp or icmp rule matches")
     return found

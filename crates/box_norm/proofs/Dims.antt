@@ -20,6 +20,7 @@ pub data Dim : Type 0 where
   Dport : Dim
   Flags : Dim
   State : Dim
+  Types : Dim
 
 abbrev pub place : Dim → ℕ
 place Dim.InName = 0
@@ -31,6 +32,7 @@ place Dim.Sport = 5
 place Dim.Dport = 6
 place Dim.Flags = 7
 place Dim.State = 8
+place Dim.Types = 9
 
 -- what a cube has for each
 abbrev pub Value : Dim → Type 0
@@ -43,6 +45,7 @@ Value Dim.Sport = List Range
 Value Dim.Dport = List Range
 Value Dim.Flags = ℕ
 Value Dim.State = ℕ
+Value Dim.Types = List Range
 
 -- whether the packet has one of these values
 abbrev pub has_value : (d : Dim) → Value d → Packet → Bool
@@ -55,6 +58,7 @@ has_value Dim.Sport v p = has v p.sport
 has_value Dim.Dport v p = has v p.dport
 has_value Dim.Flags v p = has_bit v p.flags
 has_value Dim.State v p = has_bit v p.state
+has_value Dim.Types v p = has v p.icmp
 
 -- the cube with these values in one dimension
 abbrev pub put : {W : ℕ} (d : Dim) → Cube W → Value d → Cube W
@@ -67,11 +71,12 @@ put Dim.Sport c v = record c { sport = v }
 put Dim.Dport c v = record c { dport = v }
 put Dim.Flags c v = record c { flags = v }
 put Dim.State c v = record c { state = v }
+put Dim.Types c v = record c { icmp = v }
 
 -- for each dimension in turn, whether it has the packet's value
 abbrev pub tests : {W : ℕ} → Cube W → Packet → List Bool
 tests c p = has_name c.in_name p.in_name ∷ has_name c.out_name p.out_name ∷ has c.src p.src ∷ has c.dst p.dst ∷
-    has c.proto p.proto ∷ has c.sport p.sport ∷ has c.dport p.dport ∷ has_bit c.flags p.flags ∷ has_bit c.state p.state ∷ []
+    has c.proto p.proto ∷ has c.sport p.sport ∷ has c.dport p.dport ∷ has_bit c.flags p.flags ∷ has_bit c.state p.state ∷ has c.icmp p.icmp ∷ []
 
 abbrev pub all : List Bool → Bool
 all [] = true
@@ -104,12 +109,12 @@ one_apart [] i = refl
 one_apart (x ∷ xs) zero = refl
 one_apart (x ∷ xs) (suc i) = ap (λ b. x && b) (one_apart xs i) ∙ swapped x (nth xs i) (all (others xs i))
 
-ended : (a b c d e f g h i : Bool) → (a && (b && (c && (d && (e && (f && (g && (h && i)))))))) ≡ all (a ∷ b ∷ c ∷ d ∷ e ∷ f ∷ g ∷ h ∷ i ∷ [])
-ended a b c d e f g h i = ap (λ x. a && (b && (c && (d && (e && (f && (g && (h && x)))))))) (and_one i)
+ended : (a b c d e f g h i j : Bool) → (a && (b && (c && (d && (e && (f && (g && (h && (i && j))))))))) ≡ all (a ∷ b ∷ c ∷ d ∷ e ∷ f ∷ g ∷ h ∷ i ∷ j ∷ [])
+ended a b c d e f g h i j = ap (λ x. a && (b && (c && (d && (e && (f && (g && (h && (i && x))))))))) (and_one j)
 
 pub holds_all : {W : ℕ} (c : Cube W) (p : Packet) → holds_cube c p ≡ all (tests c p)
 holds_all c p = ended (has_name c.in_name p.in_name) (has_name c.out_name p.out_name) (has c.src p.src) (has c.dst p.dst)
-    (has c.proto p.proto) (has c.sport p.sport) (has c.dport p.dport) (has_bit c.flags p.flags) (has_bit c.state p.state)
+    (has c.proto p.proto) (has c.sport p.sport) (has c.dport p.dport) (has_bit c.flags p.flags) (has_bit c.state p.state) (has c.icmp p.icmp)
 
 -- each value is that of both lists
 abbrev pub AreBoth : List Bool → List Bool → List Bool → Type 0
@@ -144,6 +149,7 @@ put_fits Dim.Sport c v p = refl
 put_fits Dim.Dport c v p = refl
 put_fits Dim.Flags c v p = refl
 put_fits Dim.State c v p = refl
+put_fits Dim.Types c v p = refl
 
 pub put_else : {W : ℕ} (d : Dim) (c : Cube W) (v : Value d) (p : Packet) → fits_else d (put d c v) p ≡ fits_else d c p
 put_else Dim.InName c v p = refl
@@ -155,6 +161,7 @@ put_else Dim.Sport c v p = refl
 put_else Dim.Dport c v p = refl
 put_else Dim.Flags c v p = refl
 put_else Dim.State c v p = refl
+put_else Dim.Types c v p = refl
 
 pub put_holds : {W : ℕ} (d : Dim) (c : Cube W) (v : Value d) (p : Packet) → holds_cube (put d c v) p ≡ (has_value d v p && fits_else d c p)
 put_holds d c v p = holds_by d (put d c v) p ∙ ap (λ x. x && fits_else d (put d c v) p) (put_fits d c v p) ∙ ap (λ y. has_value d v p && y) (put_else d c v p)

@@ -20,7 +20,7 @@ ones : (k i : ℕ) → i < k → has_bit (2 ^ k - 1) i ≡ true
 ones k i h = let e = bit_at_ones k i h in grind (arith, nat_tests, e)
 
 pub whole_holds : (W : ℕ) (p : Packet) → IsValid W p → holds_cube (whole_of W) p ≡ true
-whole_holds W p v = let f = ones 64 p.flags v.flags in let s = ones 5 p.state v.state in grind (arith, nat_tests, f, s, v.src, v.dst, v.proto, v.sport, v.dport)
+whole_holds W p v = let f = ones 64 p.flags v.flags in let s = ones 5 p.state v.state in grind (arith, nat_tests, f, s, v.src, v.dst, v.proto, v.sport, v.dport, v.icmp)
 
 chosen : (h a b : Bool) (r s : Option Bool) → s ≡ (if a then Some b else r) → (if h then Some b else s) ≡ (if h || a then Some b else r)
 chosen true a b r s e = refl

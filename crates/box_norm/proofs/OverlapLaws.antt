@@ -13,7 +13,7 @@ use Rattle.primitives.specs.declared.prim.Packet.{Packet}
 use Rattle.primitives.specs.Holds.{IsValid}
 use Rattle.box_norm.specs.declared.cube.Cube.{Cube}
 use Rattle.box_norm.specs.Cubes.{holds_cube, any_holds, is_none, kept}
-use Rattle.box_norm.specs.Overlaps.{without_each, names_common, cut_by_each, names_less, both_of, and_names, and_of, holds_some, to_in_name, to_out_name, to_src, to_dst, to_proto, to_sport, to_dport, to_flags, with_in_names, with_out_names, minus_common, minus_of}
+use Rattle.box_norm.specs.Overlaps.{without_each, names_common, cut_by_each, names_less, both_of, and_names, and_of, holds_some, to_in_name, minus_common, minus_of}
 use Rattle.box_norm.proofs.Dims.{Dim, Value, has_value, put, tests, all, fits_in, fits_else, holds_all, all_both, holds_by, put_holds, more_asked, one_changed}
 use Rattle.box_norm.proofs.PieceLaws.{any_append, kept_holds, kept_changed, none_holds, and_within, minus_within, bits_and, bits_less}
 
@@ -101,10 +101,11 @@ module _ {W : ℕ} (a b : Cube W) (p : Packet) (v : IsValid W p) where
     fits_both Dim.Dport = and_within 16 a.dport b.dport p.dport v.dport
     fits_both Dim.Flags = bits_and a.flags b.flags p.flags
     fits_both Dim.State = bits_and a.state b.state p.state
+    fits_both Dim.Types = and_within 8 a.icmp b.icmp p.icmp v.icmp
 
     pub both_hold : holds_cube (both_of a b i o) p ≡ (holds_cube a p && holds_cube b p)
     both_hold = holds_all (both_of a b i o) p ∙ all_both (tests a p) (tests b p) (tests (both_of a b i o) p)
-        (fits_both Dim.InName, (fits_both Dim.OutName, (fits_both Dim.Src, (fits_both Dim.Dst, (fits_both Dim.Proto, (fits_both Dim.Sport, (fits_both Dim.Dport, (fits_both Dim.Flags, (fits_both Dim.State, tt))))))))) ∙
+        (fits_both Dim.InName, (fits_both Dim.OutName, (fits_both Dim.Src, (fits_both Dim.Dst, (fits_both Dim.Proto, (fits_both Dim.Sport, (fits_both Dim.Dport, (fits_both Dim.Flags, (fits_both Dim.State, (fits_both Dim.Types, tt)))))))))) ∙
         ap (λ x. x && all (tests b p)) (sym (holds_all a p)) ∙ ap (λ y. holds_cube a p && y) (sym (holds_all b p))
 
   -- a dimension where nothing is common
@@ -131,8 +132,8 @@ front_more x y h t b e f = grind (arith, e, f)
 pieces_more : (x y z h t b : Bool) → x ≡ (h && not t) → z ≡ (h && t) → y ≡ (z && not b) → (x || y) ≡ (h && not (t && b))
 pieces_more x y z h t b e f g = grind (arith, e, f, g)
 
-nested : (a b c d e f g h i : Bool) → ((((((((a && b) && c) && d) && e) && f) && g) && h) && i) ≡ (a && (b && (c && (d && (e && (f && (g && (h && i))))))))
-nested a b c d e f g h i = simp and_assoc
+nested : (a b c d e f g h i j : Bool) → (((((((((a && b) && c) && d) && e) && f) && g) && h) && i) && j) ≡ (a && (b && (c && (d && (e && (f && (g && (h && (i && j)))))))))
+nested a b c d e f g h i j = simp and_assoc
 
 -- so far: the pieces hold the packets of `a` outside of these dimensions of `b`, and the front those inside
 record Front {W : ℕ} (a : Cube W) (p : Packet) (inside : Bool) (pieces : List (Cube W)) (front : Cube W) : Type 0 where
@@ -180,8 +181,9 @@ module _ {W : ℕ} (a b : Cube W) (i o : NameSet) (p : Packet) (v : IsValid W p)
       let s7 = next a p _ _ _ s6 Dim.Dport (fits_in Dim.Dport b p) (set_minus 16 a.dport b.dport) m.dport (minus_within 16 a.dport b.dport p.dport v.dport) (common Dim.Dport) in
       let s8 = next a p _ _ _ s7 Dim.Flags (fits_in Dim.Flags b p) (bit_xor a.flags (bit_and a.flags b.flags)) m.flags (bits_less a.flags b.flags p.flags) (common Dim.Flags) in
       let s9 = next a p _ _ _ s8 Dim.State (fits_in Dim.State b p) (bit_xor a.state (bit_and a.state b.state)) m.state (bits_less a.state b.state p.state) (common Dim.State) in
-      s9.outside ∙ ap (λ t. holds_cube a p && not t) (nested (fits_in Dim.InName b p) (fits_in Dim.OutName b p) (fits_in Dim.Src b p) (fits_in Dim.Dst b p)
-      (fits_in Dim.Proto b p) (fits_in Dim.Sport b p) (fits_in Dim.Dport b p) (fits_in Dim.Flags b p) (fits_in Dim.State b p))
+      let s10 = next a p _ _ _ s9 Dim.Types (fits_in Dim.Types b p) (set_minus 8 a.icmp b.icmp) m.icmp (minus_within 8 a.icmp b.icmp p.icmp v.icmp) (common Dim.Types) in
+      s10.outside ∙ ap (λ t. holds_cube a p && not t) (nested (fits_in Dim.InName b p) (fits_in Dim.OutName b p) (fits_in Dim.Src b p) (fits_in Dim.Dst b p)
+      (fits_in Dim.Proto b p) (fits_in Dim.Sport b p) (fits_in Dim.Dport b p) (fits_in Dim.Flags b p) (fits_in Dim.State b p) (fits_in Dim.Types b p))
 
 -- the cube alone, where nothing is common
 alone : (x y : Bool) → false ≡ (x && y) → (x || false) ≡ (x && not y)

@@ -124,6 +124,7 @@ piece_times (Prim_.SrcPorts ports) c p = proto_times Dim.Sport c ports.proto p _
 piece_times (Prim_.DstPorts ports) c p = proto_times Dim.Dport c ports.proto p _ _ (set_parts 16 c.dport ports.set p.dport)
 piece_times (Prim_.Flags mask comp) c p = proto_times Dim.Flags c 6 p _ _ (bit_parts c.flags (flags_where mask comp 64) p.flags)
 piece_times (Prim_.State states) c p = kept_parts Dim.State c p _ _ (bit_parts c.state states p.state)
+piece_times (Prim_.IcmpKind m) c p = proto_times Dim.Types c m.proto p _ _ (set_parts 8 c.icmp (single m.kind) p.icmp)
 piece_times Prim_.Always c p = let e = times_kept c p in omega (arith, e)
 
 -- of the lists that two cuts leave

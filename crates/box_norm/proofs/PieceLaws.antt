@@ -36,19 +36,22 @@ no_name_has s n h = let f = covered_fits s.excluded s.base n h in grind (arith, 
 no_bit : (b i : ℕ) → (b == 0) ≡ true → has_bit b i ≡ false
 no_bit b i h = let e : b ≡ 0 = grind (arith, nat_tests, h) in rw e (let z = bit_at-zero i in grind (arith, nat_tests, z))
 
+-- of two dimensions, each of which holds nothing where it is empty
+one_none : (x y h t : Bool) → (x ≡ true → h ≡ false) → (y ≡ true → t ≡ false) → (x || y) ≡ true → (h && t) ≡ false
+one_none x y h t f g e = grind (arith, f, g, e)
+
 -- no packet is in an empty cube
 pub none_holds : {W : ℕ} (c : Cube W) (p : Packet) → is_none c ≡ true → holds_cube c p ≡ false
-none_holds c p h =
-    let a = no_name_has c.in_name p.in_name in
-    let b = no_name_has c.out_name p.out_name in
-    let d = no_range_has c.src p.src in
-    let e = no_range_has c.dst p.dst in
-    let f = no_range_has c.proto p.proto in
-    let g = no_range_has c.sport p.sport in
-    let i = no_range_has c.dport p.dport in
-    let j = no_bit c.flags p.flags in
-    let k = no_bit c.state p.state in
-    grind (arith, a, b, d, e, f, g, i, j, k, h)
+none_holds c p =
+    one_none (has_no_name c.in_name) _ (has_name c.in_name p.in_name) _ (no_name_has c.in_name p.in_name)
+    (one_none (has_no_name c.out_name) _ (has_name c.out_name p.out_name) _ (no_name_has c.out_name p.out_name)
+    (one_none (has_no_range c.src) _ (has c.src p.src) _ (no_range_has c.src p.src)
+    (one_none (has_no_range c.dst) _ (has c.dst p.dst) _ (no_range_has c.dst p.dst)
+    (one_none (has_no_range c.proto) _ (has c.proto p.proto) _ (no_range_has c.proto p.proto)
+    (one_none (has_no_range c.sport) _ (has c.sport p.sport) _ (no_range_has c.sport p.sport)
+    (one_none (has_no_range c.dport) _ (has c.dport p.dport) _ (no_range_has c.dport p.dport)
+    (one_none (c.flags == 0) _ (has_bit c.flags p.flags) _ (no_bit c.flags p.flags)
+    (one_none (c.state == 0) _ (has_bit c.state p.state) _ (no_bit c.state p.state) (no_range_has c.icmp p.icmp)))))))))
 
 or_none : (b : Bool) → (b || false) ≡ b
 or_none true = refl
@@ -159,6 +162,7 @@ cut_holds (Prim_.SrcPorts ports) c p v = with_proto Dim.Sport c ports.proto (has
 cut_holds (Prim_.DstPorts ports) c p v = with_proto Dim.Dport c ports.proto (has ports.set p.dport) p _ v.proto (and_within 16 c.dport ports.set p.dport v.dport)
 cut_holds (Prim_.Flags mask comp) c p v = with_proto Dim.Flags c 6 (bit_and p.flags mask == comp) p _ v.proto (flags_in c.flags mask comp p.flags v.flags)
 cut_holds (Prim_.State states) c p v = kept_changed Dim.State c p (has_bit states p.state) _ (bits_and c.state states p.state)
+cut_holds (Prim_.IcmpKind m) c p v = with_proto Dim.Types c m.proto (p.icmp == m.kind) p _ v.proto (and_single c.icmp m.kind p.icmp v.icmp)
 cut_holds Prim_.Always c p v = kept_holds c p ∙ and_one (holds_cube c p)
 
 -- what is kept where it doesn't
@@ -174,4 +178,5 @@ omit_holds (Prim_.SrcPorts ports) c p v = without_proto Dim.Sport c ports.proto 
 omit_holds (Prim_.DstPorts ports) c p v = without_proto Dim.Dport c ports.proto (has ports.set p.dport) p _ v.proto (minus_within 16 c.dport ports.set p.dport v.dport)
 omit_holds (Prim_.Flags mask comp) c p v = without_proto Dim.Flags c 6 (bit_and p.flags mask == comp) p _ v.proto (flags_out c.flags mask comp p.flags v.flags)
 omit_holds (Prim_.State states) c p v = kept_changed Dim.State c p (not (has_bit states p.state)) _ (bits_less c.state states p.state)
+omit_holds (Prim_.IcmpKind m) c p v = without_proto Dim.Types c m.proto (p.icmp == m.kind) p _ v.proto (minus_single c.icmp m.kind p.icmp v.icmp)
 omit_holds Prim_.Always c p v = sym (and_false (holds_cube c p))

@@ -12,7 +12,7 @@ use Rattle.primitives.specs.declared.prim.Packet.{Packet}
 use Rattle.box_norm.specs.declared.cube.Cube.{Cube}
 use Rattle.box_norm.specs.Cubes.{holds_cube, is_none, kept}
 use Rattle.box_norm.specs.Disjoint.{AreDisjoint, AreAllApart}
-use Rattle.box_norm.specs.Overlaps.{names_common, cut_by_each, names_less, both_of, and_names, to_in_name, to_out_name, to_src, to_dst, to_proto, to_sport, to_dport, to_flags, with_in_names, with_out_names, minus_common, minus_of}
+use Rattle.box_norm.specs.Overlaps.{names_common, cut_by_each, names_less, both_of, and_names, to_in_name, minus_common, minus_of}
 use Rattle.box_norm.proofs.OverlapLaws.{common_names}
 use Rattle.box_norm.proofs.Dims.{Dim, Value, has_value, put, fits_in, fits_else, holds_by, put_holds}
 use Rattle.box_norm.proofs.PartLaws.{one, times, times_append, times_cons, times_kept, two_parts, set_parts, bit_parts}
@@ -134,7 +134,8 @@ module _ {W : ℕ} (a b : Cube W) (i o : NameSet) (p : Packet)
       let s7 = next a p _ _ s6 Dim.Dport (set_minus 16 a.dport b.dport) m.dport (set_parts 16 a.dport b.dport p.dport) in
       let s8 = next a p _ _ s7 Dim.Flags (bit_xor a.flags (bit_and a.flags b.flags)) m.flags (bit_parts a.flags b.flags p.flags) in
       let s9 = next a p _ _ s8 Dim.State (bit_xor a.state (bit_and a.state b.state)) m.state (bit_parts a.state b.state p.state) in
-      s9.once
+      let s10 = next a p _ _ s9 Dim.Types (set_minus 8 a.icmp b.icmp) m.icmp (set_parts 8 a.icmp b.icmp p.icmp) in
+      s10.once
 
 one_most : (b : Bool) → one b ≤ 1
 one_most true = omega arith

@@ -171,6 +171,7 @@ module _ (S : ℕ → Type 0) (N : NameSet → Type 0) (ps : List Pattern)
   cut_fits (Prim_.DstPorts ports) k c h = same_fits S N c h (record c { proto = set_and 8 c.proto (single ports.proto); dport = set_and 16 c.dport ports.set }) refl refl h.states
   cut_fits (Prim_.Flags mask comp) k c h = same_fits S N c h (record c { proto = set_and 8 c.proto (single 6); flags = bit_and c.flags (flags_where mask comp 64) }) refl refl h.states
   cut_fits (Prim_.State states) k c h = same_fits S N c h (record c { state = bit_and c.state states }) refl refl (s_cut c.state states h.states)
+  cut_fits (Prim_.IcmpKind m) k c h = same_fits S N c h (record c { proto = set_and 8 c.proto (single m.proto); icmp = set_and 8 c.icmp (single m.kind) }) refl refl h.states
   cut_fits Prim_.Always k c h = same_fits S N c h c refl refl h.states
 
   pub omit_fits : {W : ℕ} (x : Prim_ W) → AllIn ps (patterns_in x) → (c : Cube W) → Fits S N c → AllByRecursion (Fits S N) (omit_pieces x c)
@@ -192,6 +193,10 @@ module _ (S : ℕ → Type 0) (N : NameSet → Type 0) (ps : List Pattern)
       (same_fits S N c h (record c { proto = set_minus 8 c.proto (single 6) }) refl refl h.states)
       (same_fits S N c h (record c { proto = set_and 8 c.proto (single 6); flags = bit_xor c.flags (bit_and c.flags (flags_where mask comp 64)) }) refl refl h.states)
   omit_fits (Prim_.State states) k c h = same_fits S N c h (record c { state = bit_xor c.state (bit_and c.state states) }) refl refl (s_omit c.state states h.states)
+  omit_fits (Prim_.IcmpKind m) k c h =
+      all_append (Fits S N) (kept (record c { proto = set_minus 8 c.proto (single m.proto) })) (kept (record c { proto = set_and 8 c.proto (single m.proto); icmp = set_minus 8 c.icmp (single m.kind) }))
+      (same_fits S N c h (record c { proto = set_minus 8 c.proto (single m.proto) }) refl refl h.states)
+      (same_fits S N c h (record c { proto = set_and 8 c.proto (single m.proto); icmp = set_minus 8 c.icmp (single m.kind) }) refl refl h.states)
   omit_fits Prim_.Always k c h = tt
 
   -- the cuts by an expression of these patterns

@@ -40,6 +40,7 @@ both_of {W} a b in_name out_name = record {
   dport = set_and 16 a.dport b.dport;
   flags = bit_and a.flags b.flags;
   state = bit_and a.state b.state;
+  icmp = set_and 8 a.icmp b.icmp;
 }
 
 -- the cube, unless a dimension is empty
@@ -86,6 +87,9 @@ to_dport common c = record (to_sport common c) { dport = common.dport }
 abbrev pub to_flags : {W : ℕ} → Cube W → Cube W → Cube W
 to_flags common c = record (to_dport common c) { flags = common.flags }
 
+abbrev pub to_state : {W : ℕ} → Cube W → Cube W → Cube W
+to_state common c = record (to_flags common c) { state = common.state }
+
 -- the cube with each of these sets for its input names
 abbrev pub with_in_names : {W : ℕ} → Cube W → List NameSet → List (Cube W)
 with_in_names c sets = flat_map (λ s. kept (record c { in_name = s })) sets
@@ -108,6 +112,7 @@ minus_common {W} a b (Some common) =
     ++ kept (record (to_sport common a) { dport = set_minus 16 a.dport b.dport })
     ++ kept (record (to_dport common a) { flags = bit_xor a.flags (bit_and a.flags b.flags) })
     ++ kept (record (to_flags common a) { state = bit_xor a.state (bit_and a.state b.state) })
+    ++ kept (record (to_state common a) { icmp = set_minus 8 a.icmp b.icmp })
 
 -- the pieces of the first cube without the second
 abbrev pub minus_of : {W : ℕ} → Cube W → Cube W → List (Cube W)

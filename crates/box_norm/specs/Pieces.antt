@@ -36,6 +36,7 @@ cut_pieces (Prim_.SrcPorts ports) c = kept (record c { proto = set_and 8 c.proto
 cut_pieces (Prim_.DstPorts ports) c = kept (record c { proto = set_and 8 c.proto (single ports.proto); dport = set_and 16 c.dport ports.set })
 cut_pieces (Prim_.Flags mask comp) c = kept (record c { proto = set_and 8 c.proto (single 6); flags = bit_and c.flags (flags_where mask comp 64) })
 cut_pieces (Prim_.State states) c = kept (record c { state = bit_and c.state states })
+cut_pieces (Prim_.IcmpKind m) c = kept (record c { proto = set_and 8 c.proto (single m.proto); icmp = set_and 8 c.icmp (single m.kind) })
 cut_pieces Prim_.Always c = kept c
 
 -- where it doesn't
@@ -52,6 +53,8 @@ omit_pieces (Prim_.DstPorts ports) c = kept (record c { proto = set_minus 8 c.pr
 omit_pieces (Prim_.Flags mask comp) c = kept (record c { proto = set_minus 8 c.proto (single 6) })
     ++ kept (record c { proto = set_and 8 c.proto (single 6); flags = bit_xor c.flags (bit_and c.flags (flags_where mask comp 64)) })
 omit_pieces (Prim_.State states) c = kept (record c { state = bit_xor c.state (bit_and c.state states) })
+omit_pieces (Prim_.IcmpKind m) c = kept (record c { proto = set_minus 8 c.proto (single m.proto) })
+    ++ kept (record c { proto = set_and 8 c.proto (single m.proto); icmp = set_minus 8 c.icmp (single m.kind) })
 omit_pieces Prim_.Always c = []
 
 -- where the test holds, or, if it is not to hold, where it doesn't

@@ -11,6 +11,7 @@ use Rattle.match_expr.specs.Primitives.{joined}
 use Rattle.name_set.specs.declared.pattern.Pattern.{Pattern}
 use Rattle.name_set.specs.declared.set.NameSet.{NameSet}
 use Rattle.primitives.specs.declared.prim.Prim_.{Prim_}
+use Rattle.primitives.specs.Messages.{HasTypes}
 use Rattle.primitives.specs.Ports.{HasPorts}
 use Rattle.box_norm.specs.declared.cube.Cube.{Cube}
 use Rattle.box_norm.specs.declared.cube.CubeFault.{CubeFault}
@@ -26,13 +27,19 @@ full w = record { lo = 0; hi = 2 ^ w - 1 } ∷ []
 abbrev pub HasPortsAlone : List Range → Type 0
 HasPortsAlone protos = (n : ℕ) × HasPorts n × (protos ≡ single n)
 
--- no dimension is empty, ports and flags are restricted only where the protocol is one that has them, and the protocol is
--- one number from 1 to 255 or a set that holds 0
+-- one protocol alone, whose messages have types, and one type to 254 or a set that holds 255
+abbrev pub HasTypesAlone : List Range → List Range → Type 0
+HasTypesAlone protos types = ((n : ℕ) × HasTypes n × (protos ≡ single n))
+    × (((k : ℕ) × (k ≤ 254) × (types ≡ single k)) ⊎ (has types 255 ≡ true))
+
+-- no dimension is empty, ports, flags and types of messages are restricted only where the protocol is one that has them, and
+-- the protocol is one number from 1 to 255 or a set that holds 0
 pub record IsRegular {W : ℕ} (c : Cube W) : Type 0 where
   pub some : is_none c ≡ false
   pub sport : (c.sport ≡ full 16) ⊎ HasPortsAlone c.proto
   pub dport : (c.dport ≡ full 16) ⊎ HasPortsAlone c.proto
   pub flags : (c.flags ≡ 2 ^ 64 - 1) ⊎ (c.proto ≡ single 6)
+  pub icmp : (c.icmp ≡ full 8) ⊎ HasTypesAlone c.proto c.icmp
   pub proto : ((n : ℕ) × (1 ≤ n) × (n ≤ 255) × (c.proto ≡ single n)) ⊎ (has c.proto 0 ≡ true)
 
 -- each cube is regular
@@ -50,6 +57,7 @@ patterns_in (Prim_.SrcPorts ports) = []
 patterns_in (Prim_.DstPorts ports) = []
 patterns_in (Prim_.Flags mask comp) = []
 patterns_in (Prim_.State states) = []
+patterns_in (Prim_.IcmpKind m) = []
 patterns_in Prim_.Always = []
 
 -- one level, with the patterns of each part in its place
@@ -86,7 +94,8 @@ KeepsPatterns {W} list e result = (patterns : List Pattern) → AllByRecursion (
 abbrev pub HasStates : {W : ℕ} → Cube W → Type 0
 HasStates c = c.state < 32
 
--- what the type of a test promises: a protocol is a number from 1 to 255, and ports are asked only of one that has them
+-- what the type of a test promises: a protocol is a number from 1 to 255, ports are asked only of one that has them, and so
+-- are types to 254
 abbrev pub IsSound : {W : ℕ} → Prim_ W → Type 0
 IsSound (Prim_.Src set) = ⊤
 IsSound (Prim_.Dst set) = ⊤
@@ -97,6 +106,7 @@ IsSound (Prim_.SrcPorts ports) = HasPorts ports.proto
 IsSound (Prim_.DstPorts ports) = HasPorts ports.proto
 IsSound (Prim_.Flags mask comp) = ⊤
 IsSound (Prim_.State states) = ⊤
+IsSound (Prim_.IcmpKind m) = HasTypes m.proto × (m.kind ≤ 254)
 IsSound Prim_.Always = ⊤
 
 -- the fact holds of the cube of each rule

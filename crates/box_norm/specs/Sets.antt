@@ -10,3 +10,4 @@ pub record HasSets {W : ℕ} (cube : Cube W) : Type 0 where
   pub protocols : IsSet 8 cube.proto
   pub sports : IsSet 16 cube.sport
   pub dports : IsSet 16 cube.dport
+  pub types : IsSet 8 cube.icmp

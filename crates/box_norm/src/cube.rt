@@ -9,7 +9,7 @@ use primitives::Packet;
 use std::alloc::{AllocError, Global};
 use thiserror::Error;
 
-/// Packets, by a set of values for each of nine dimensions. A packet is in the cube where each of its fields is in the
+/// Packets, by a set of values for each of ten dimensions. A packet is in the cube where each of its fields is in the
 /// set of its name. W is the number of bits of an address, 32 or 128.
 #[derive(Drop)]
 pub struct Cube<const W: u32> {
@@ -31,6 +31,25 @@ pub struct Cube<const W: u32> {
     pub flags: u64,
     /// A bit for each of the five states of a connection.
     pub state: u8,
+    /// Types of icmp and ipv6-icmp messages.
+    pub icmp: Set<8>,
+}
+
+/// The transport protocols and their ports, three dimensions of a cube.
+#[derive(Drop)]
+pub struct Transport {
+    pub proto: Set<8>,
+    pub sport: Set<16>,
+    pub dport: Set<16>,
+}
+
+/// The dimensions of a cube that are sets of numbers.
+#[derive(Drop)]
+pub struct Sets<const W: u32> {
+    pub src: Set<W>,
+    pub dst: Set<W>,
+    pub transport: Transport,
+    pub icmp: Set<8>,
 }
 
 /// Why there is no list.
@@ -86,24 +105,95 @@ impl<const W: u32> Cube<W> {
             && self.dport.contains(p.dport as u128)
             && has_flags(self.flags, p.flags)
             && has_state(self.state, p.state)
+            && self.icmp.contains(p.icmp as u128)
     }
 
     /// An equal cube, or `AllocError`.
     pub fn copy(&self, alloc: Global) -> Result<Cube<W>, AllocError>
         ensures { IfOk result (λ c. c ≡ self.now) }
     {
-        Ok(Cube {
-            in_name: self.in_name.copy(alloc)?,
-            out_name: self.out_name.copy(alloc)?,
-            src: self.src.copy(alloc)?,
-            dst: self.dst.copy(alloc)?,
-            proto: self.proto.copy(alloc)?,
-            sport: self.sport.copy(alloc)?,
-            dport: self.dport.copy(alloc)?,
-            flags: self.flags,
-            state: self.state,
-        })
+        let (in_name, out_name) = copy_names(alloc, self)?;
+        let sets = copy_sets(alloc, self)?;
+        Ok(of_dimensions(in_name, out_name, sets, self.flags, self.state))
     }
+}
+
+/// The cube with these dimensions.
+pub fn of_dimensions<const W: u32>(
+    in_name: NameSet,
+    out_name: NameSet,
+    sets: Sets<W>,
+    flags: u64,
+    state: u8,
+) -> Cube<W>
+    ensures { result ≡ record {
+      in_name = in_name;
+      out_name = out_name;
+      src = sets.entry.src;
+      dst = sets.entry.dst;
+      proto = sets.entry.transport.proto;
+      sport = sets.entry.transport.sport;
+      dport = sets.entry.transport.dport;
+      flags = flags;
+      state = state;
+      icmp = sets.entry.icmp;
+    } }
+{
+    let Sets {
+        src,
+        dst,
+        transport,
+        icmp,
+    } = sets;
+    let Transport {
+        proto,
+        sport,
+        dport,
+    } = transport;
+    Cube {
+        in_name,
+        out_name,
+        src,
+        dst,
+        proto,
+        sport,
+        dport,
+        flags,
+        state,
+        icmp,
+    }
+}
+
+fn copy_names<const W: u32>(alloc: Global, cube: &Cube<W>) -> Result<(NameSet, NameSet), AllocError>
+    ensures { IfOk result (λ names. names ≡ (cube.now.in_name, cube.now.out_name)) }
+{
+    Ok((cube.in_name.copy(alloc)?, cube.out_name.copy(alloc)?))
+}
+
+fn copy_sets<const W: u32>(alloc: Global, cube: &Cube<W>) -> Result<Sets<W>, AllocError>
+    ensures { IfOk result (λ s. s ≡ record {
+      src = cube.now.src;
+      dst = cube.now.dst;
+      transport = record { proto = cube.now.proto; sport = cube.now.sport; dport = cube.now.dport };
+      icmp = cube.now.icmp;
+    }) }
+{
+    Ok(Sets {
+        src: cube.src.copy(alloc)?,
+        dst: cube.dst.copy(alloc)?,
+        transport: copy_transport(alloc, cube)?,
+        icmp: cube.icmp.copy(alloc)?,
+    })
+}
+
+fn copy_transport<const W: u32>(alloc: Global, cube: &Cube<W>) -> Result<Transport, AllocError>
+    ensures { IfOk result (λ t. t ≡ record { proto = cube.now.proto; sport = cube.now.sport; dport = cube.now.dport }) }
+{
+    Ok(Transport {
+        proto: cube.proto.copy(alloc)?,
+        sport: cube.sport.copy(alloc)?,
+        dport: cube.dport.copy(alloc)?,
+    })
 }
 
 /// A rule that answers `accept` for the packets of a cube.

@@ -29,6 +29,7 @@ pub fn is_empty<const W: u32>(cube: &Cube<W>) -> bool
         || no_range(&cube.dport)
         || cube.flags == 0
         || cube.state == 0
+        || no_range(&cube.icmp)
 }
 
 /// Appends the cube, unless it is empty.
@@ -208,6 +209,25 @@ pub fn put_state<const W: u32>(
     keep(out, piece)
 }
 
+/// Appends the cube with these for the protocols and types of messages, unless it is empty.
+pub fn put_types<const W: u32>(
+    alloc: Global,
+    out: &mut Vec<Cube<W>>,
+    cube: &Cube<W>,
+    proto: Set<8>,
+    icmp: Set<8>,
+) -> Result<(), AllocError>
+    ensures { OnOk result (out.new.items ≡ out.old.items ++ kept (record cube.now { proto = proto; icmp = icmp })) }
+{
+    if no_range(&proto) || no_range(&icmp) {
+        return Ok(());
+    }
+    let mut piece = cube.copy(alloc)?;
+    piece.proto = proto;
+    piece.icmp = icmp;
+    keep(out, piece)
+}
+
 /// Appends the pieces of the cube where the test holds.
 fn push_cut<const W: u32>(
     alloc: Global,
@@ -246,6 +266,11 @@ fn push_cut<const W: u32>(
             put_flags(alloc, out, cube, tcp, cube.flags & matching(*mask, *comp))
         }
         Prim_::State(states) => put_state(alloc, out, cube, cube.state & *states),
+        Prim_::IcmpKind(message) => {
+            let proto = and_number(alloc, &cube.proto, message.proto)?;
+            let types = and_number(alloc, &cube.icmp, message.kind)?;
+            put_types(alloc, out, cube, proto, types)
+        }
         Prim_::Always => keep(out, cube.copy(alloc)?),
     }
 }
@@ -307,6 +332,13 @@ fn push_omit<const W: u32>(
             put_flags(alloc, out, cube, proto, cube.flags ^ matched)
         }
         Prim_::State(states) => put_state(alloc, out, cube, cube.state ^ (cube.state & *states)),
+        Prim_::IcmpKind(message) => {
+            let others = minus_number(alloc, &cube.proto, message.proto)?;
+            put_proto(alloc, out, cube, others)?;
+            let proto = and_number(alloc, &cube.proto, message.proto)?;
+            let types = minus_number(alloc, &cube.icmp, message.kind)?;
+            put_types(alloc, out, cube, proto, types)
+        }
         Prim_::Always => Ok(()),
     }
 }

@@ -62,8 +62,8 @@ pub fn cut_list<const W: u32>(
 /// The packets of the list where the expression doesn't hold.
 ///
 /// At `All` those where the first part doesn't hold stand first, then those where it holds and the second doesn't, and so
-/// on. At a negated test of ports or flags each cube gives two pieces: the other protocols, then the test's protocol with
-/// the other ports or flags. `CubeFault::Boxes` exactly where a list of more than `MOST_CUBES` cubes comes up on the way;
+/// on. At a negated test of ports, flags or types each cube gives two pieces: the other protocols, then the test's protocol
+/// with the other ports, flags or types. `CubeFault::Boxes` exactly where a list of more than `MOST_CUBES` cubes comes up on the way;
 /// never `CubeFault::Rules`. Cubes that share no packet give cubes that share none, and regular cubes give regular ones.
 pub fn cut_not<const W: u32>(
     alloc: Global,
@@ -114,6 +114,7 @@ pub fn whole<const W: u32>(alloc: Global) -> Result<Cube<W>, AllocError>
         dport: Set::range(alloc, 0, 65_535)?,
         flags: u64::MAX,
         state: 31,
+        icmp: Set::range(alloc, 0, 255)?,
     })
 }
 

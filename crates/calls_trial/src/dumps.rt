@@ -66,6 +66,7 @@ pub(crate) fn packet(alloc: Global, proto: u8, dport: u16) -> Packet {
         dport,
         flags: 0,
         state: 1,
+        icmp: 0,
     }
 }
 

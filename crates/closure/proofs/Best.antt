@@ -9,7 +9,7 @@ use Rattle.fw_rule.specs.declared.side.Side.{Side}
 use Rattle.fw_rule.specs.declared.side.Side.TheVariants.{Upper, Lower}
 use Rattle.closure.proofs.Outcomes.{Outcome, Good, Ends, Bad, best, walked, verdict_of, AsGood, truth_of}
 use Rattle.closure.specs.Laws.{wanted}
-use Rattle.closure.specs.declared.modes.Mode.TheVariants.{Hard}
+use Rattle.rewriting.specs.declared.rows.Mode.TheVariants.{Hard}
 use Rattle.closure.specs.Rewriting.{tree}
 use Rattle.closure.specs.Flat.{flat_list}
 use Rattle.closure.specs.Laws.{told}

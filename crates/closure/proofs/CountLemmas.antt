@@ -14,12 +14,13 @@ use Rattle.fw_rule.proofs.Ends.{append, contains_at}
 use Rattle.chain_graph.specs.declared.graph.Ranked.{Ranked}
 use Rattle.chain_graph.proofs.Paths.{longer}
 use Rattle.closure.specs.declared.counting.Counts.{Counts}
-use Rattle.closure.specs.declared.modes.Mode.{Mode}
-use Rattle.closure.specs.declared.modes.Mode.TheVariants.{Hard, Soft}
-use Rattle.closure.specs.declared.modes.Row.{Row}
+use Rattle.rewriting.specs.declared.rows.Mode.{Mode}
+use Rattle.rewriting.specs.declared.rows.Mode.TheVariants.{Hard, Soft}
+use Rattle.rewriting.specs.declared.rows.Row.{Row}
 use Rattle.fw_rule.specs.declared.side.Side.{Side}
 use Rattle.closure.specs.Checked.{IsRankedWithPolicy}
-use Rattle.closure.specs.Rewriting.{Tree, nodes, kind, row_of, shape, items, tree, rules_at, greatest_depth}
+use Rattle.closure.specs.Rewriting.{Tree, nodes, shape, items, tree, rules_at, greatest_depth}
+use Rattle.rewriting.specs.Table.{kind, row_of}
 use Rattle.closure.specs.inner.Counts.{capped, in_mode, entry, row_items, rule_items, rules_items}
 use Rattle.closure.specs.inner.Counted.{counts_of, IsCounted, AreCounted}
 use Rattle.closure.proofs.Depths.{items_same, same_tree}

@@ -7,11 +7,12 @@ use Rattle.fw_rule.specs.declared.rule.Dump.{Dump}
 use Rattle.fw_rule.specs.Matching.{known_of, doubt_in}
 use Rattle.fw_rule.specs.Walk.{RuleOf, Calls, Within, deep, target_of}
 use Rattle.fw_rule.proofs.Ends.{contains_at}
-use Rattle.closure.specs.declared.modes.Mode.{Mode}
-use Rattle.closure.specs.declared.modes.Mode.TheVariants.{Soft}
-use Rattle.closure.specs.declared.modes.Row.{Row}
+use Rattle.rewriting.specs.declared.rows.Mode.{Mode}
+use Rattle.rewriting.specs.declared.rows.Mode.TheVariants.{Soft}
+use Rattle.rewriting.specs.declared.rows.Row.{Row}
 use Rattle.fw_rule.specs.declared.side.Side.{Side}
-use Rattle.closure.specs.Rewriting.{Tree, Decide, Leave, kind, row_of, shape, items, rules_at, rules_of, tree}
+use Rattle.closure.specs.Rewriting.{Tree, Decide, Leave, shape, items, rules_at, rules_of, tree}
+use Rattle.rewriting.specs.Table.{kind, row_of}
 use Rattle.closure.proofs.FlatLemmas.{Runs, run_kind, calls}
 
 module _ {P : Type 0} where

@@ -11,12 +11,13 @@ use Rattle.fw_rule.specs.declared.rule.Dump.{Dump}
 use Rattle.fw_rule.specs.Matching.{known_of, doubt_in}
 use Rattle.fw_rule.specs.declared.side.Side.{Side}
 use Rattle.closure.specs.declared.ends.Ends.{Ends}
-use Rattle.closure.specs.declared.modes.ActionKind.{ActionKind}
-use Rattle.closure.specs.declared.modes.ActionKind.TheVariants.{GoodVerdict, BadVerdict, GoOn, GoBack, CallTo, GoTo}
-use Rattle.closure.specs.declared.modes.Mode.{Mode}
-use Rattle.closure.specs.declared.modes.Mode.TheVariants.{Hard, Soft}
-use Rattle.closure.specs.declared.modes.Row.{Row}
-use Rattle.closure.specs.Rewriting.{Tree, Done, Decide, Leave, Block, kind, row_of, shape, items, tree, rules_at, rules_of}
+use Rattle.rewriting.specs.declared.kinds.ActionKind.{ActionKind}
+use Rattle.rewriting.specs.declared.kinds.ActionKind.TheVariants.{GoodVerdict, BadVerdict, GoOn, GoBack, CallTo, GoTo}
+use Rattle.rewriting.specs.declared.rows.Mode.{Mode}
+use Rattle.rewriting.specs.declared.rows.Mode.TheVariants.{Hard, Soft}
+use Rattle.rewriting.specs.declared.rows.Row.{Row}
+use Rattle.closure.specs.Rewriting.{Tree, Done, Decide, Leave, Block, shape, items, tree, rules_at, rules_of}
+use Rattle.rewriting.specs.Table.{kind, row_of}
 use Rattle.closure.specs.Flat.{stayed, escapes}
 use Rattle.closure.specs.Stream.{cut_all, stream}
 use Rattle.closure.specs.inner.Ends.{IsSilent, end_in, IsQuiet, AreSilent, EndsWith, AreOver, AreEnds}

@@ -10,16 +10,17 @@ use Rattle.fw_rule.specs.Walk.{Calls, RuleOf, Within, InSettled, target_of}
 use Rattle.fw_rule.proofs.Turns.{chain_read, rule_read, shallower, further}
 use Rattle.fw_rule.proofs.Ends.{contains_at}
 use Rattle.fw_rule.specs.declared.side.Side.{Side}
-use Rattle.closure.specs.declared.modes.ActionKind.{ActionKind}
-use Rattle.closure.specs.declared.modes.ActionKind.TheVariants.{GoodVerdict, BadVerdict, GoOn, GoBack, CallTo, GoTo}
-use Rattle.closure.specs.declared.modes.Row.{Row}
+use Rattle.rewriting.specs.declared.kinds.ActionKind.{ActionKind}
+use Rattle.rewriting.specs.declared.kinds.ActionKind.TheVariants.{GoodVerdict, BadVerdict, GoOn, GoBack, CallTo, GoTo}
+use Rattle.rewriting.specs.declared.rows.Row.{Row}
 use Rattle.closure.specs.declared.modes.Escape.{Escape}
-use Rattle.closure.specs.declared.modes.Mode.{Mode}
+use Rattle.rewriting.specs.declared.rows.Mode.{Mode}
 use Rattle.closure.specs.declared.modes.RulesFrom.{RulesFrom}
-use Rattle.closure.specs.declared.modes.Mode.TheVariants.{Hard, Soft}
+use Rattle.rewriting.specs.declared.rows.Mode.TheVariants.{Hard, Soft}
 use Rattle.fw_rule.specs.Matching.{known_of, doubt_in}
-use Rattle.closure.specs.Rewriting.{Tree, Leave, Block, kind, row_of, shape, items, rules_of, tree}
-use Rattle.closure.specs.inner.Items.{level, items_from}
+use Rattle.closure.specs.Rewriting.{Tree, Leave, Block, shape, items, rules_of, tree}
+use Rattle.rewriting.specs.Table.{kind, row_of, level}
+use Rattle.closure.specs.inner.Items.{items_from}
 use Rattle.closure.specs.Flat.{escape, carried, stayed, escapes}
 use Rattle.closure.proofs.Outcomes.{target_in}
 

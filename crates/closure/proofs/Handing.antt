@@ -9,12 +9,13 @@ use Rattle.fw_rule.specs.Matching.{known_of, doubt_in}
 use Rattle.closure.specs.declared.cutting.Needs.{Needs}
 use Rattle.closure.specs.declared.cutting.Passed.{Passed}
 use Rattle.closure.specs.declared.modes.Escape.{Escape}
-use Rattle.closure.specs.declared.modes.Mode.{Mode}
-use Rattle.closure.specs.declared.modes.Mode.TheVariants.{Soft}
-use Rattle.closure.specs.declared.modes.Row.{Row}
+use Rattle.rewriting.specs.declared.rows.Mode.{Mode}
+use Rattle.rewriting.specs.declared.rows.Mode.TheVariants.{Soft}
+use Rattle.rewriting.specs.declared.rows.Row.{Row}
 use Rattle.closure.specs.declared.modes.RulesFrom.{RulesFrom}
 use Rattle.fw_rule.specs.declared.side.Side.{Side}
-use Rattle.closure.specs.Rewriting.{Tree, Done, Decide, Leave, Block, kind, row_of, shape, to_the_end, items, tree, rules_of}
+use Rattle.closure.specs.Rewriting.{Tree, Done, Decide, Leave, Block, shape, to_the_end, items, tree, rules_of}
+use Rattle.rewriting.specs.Table.{kind, row_of}
 use Rattle.closure.specs.inner.Items.{items_from, items_with}
 use Rattle.closure.specs.inner.Skips.{HaveSame}
 use Rattle.closure.specs.inner.Ends.{IsSilent, AreOver}

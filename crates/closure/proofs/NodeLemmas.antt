@@ -4,12 +4,13 @@ use Rattle.match_expr.specs.declared.expr.Expr.{Expr}
 use Rattle.fw_rule.specs.declared.rule.Rule.{Rule}
 use Rattle.fw_rule.specs.declared.rule.Dump.{Dump}
 use Rattle.fw_rule.specs.declared.side.Side.{Side}
-use Rattle.closure.specs.declared.modes.ActionKind.{ActionKind}
-use Rattle.closure.specs.declared.modes.ActionKind.TheVariants.{GoodVerdict, BadVerdict, GoOn, GoBack, CallTo, GoTo}
-use Rattle.closure.specs.declared.modes.Mode.{Mode}
-use Rattle.closure.specs.declared.modes.Mode.TheVariants.{Hard, Soft}
+use Rattle.rewriting.specs.declared.kinds.ActionKind.{ActionKind}
+use Rattle.rewriting.specs.declared.kinds.ActionKind.TheVariants.{GoodVerdict, BadVerdict, GoOn, GoBack, CallTo, GoTo}
+use Rattle.rewriting.specs.declared.rows.Mode.{Mode}
+use Rattle.rewriting.specs.declared.rows.Mode.TheVariants.{Hard, Soft}
 use Rattle.fw_rule.specs.Matching.{known_of, doubt_in}
-use Rattle.closure.specs.Rewriting.{Tree, nodes, row_of, shape, to_the_end, items, tree, kind, rules_of}
+use Rattle.closure.specs.Rewriting.{Tree, nodes, shape, to_the_end, items, tree, rules_of}
+use Rattle.rewriting.specs.Table.{row_of, kind}
 
 module _ {P : Type 0} (side : Side) where
   row_nodes : (callee : ℕ → Mode → Tree P) → ((c j : ℕ) → nodes (callee c (Soft (suc j))) ≡ nodes (callee c Hard)) → (k : Expr P) (rest : Mode → Tree P) (j : ℕ) →

@@ -11,9 +11,10 @@ use Rattle.fw_rule.specs.declared.side.Side.{Side}
 use Rattle.fw_rule.specs.Matching.{known_of, doubt_in}
 use Rattle.std.specs.List.{list_any}
 use Rattle.fw_rule.specs.Walk.{Meaning, same_place}
-use Rattle.closure.specs.Rewriting.{kind, rules_of}
-use Rattle.closure.specs.declared.modes.ActionKind.{ActionKind}
-use Rattle.closure.specs.declared.modes.ActionKind.TheVariants.{GoodVerdict, BadVerdict, GoOn, GoBack, CallTo, GoTo}
+use Rattle.closure.specs.Rewriting.{rules_of}
+use Rattle.rewriting.specs.Table.{kind}
+use Rattle.rewriting.specs.declared.kinds.ActionKind.{ActionKind}
+use Rattle.rewriting.specs.declared.kinds.ActionKind.TheVariants.{GoodVerdict, BadVerdict, GoOn, GoBack, CallTo, GoTo}
 
 -- a verdict that the side wants, the chain's end, or the other verdict
 pub data Outcome : Type 0 where

@@ -7,7 +7,7 @@ use Rattle.fw_rule.proofs.Ends.{found_at, settled_inside, reached_inside}
 use Rattle.chain_graph.specs.declared.graph.Ranked.{Ranked}
 use Rattle.chain_graph.specs.Paths.{IsRank}
 use Rattle.chain_graph.proofs.Paths.{within_more}
-use Rattle.closure.specs.declared.modes.Mode.{Mode}
+use Rattle.rewriting.specs.declared.rows.Mode.{Mode}
 use Rattle.fw_rule.specs.declared.side.Side.{Side}
 use Rattle.closure.specs.Checked.{IsRankedWithPolicy}
 use Rattle.closure.specs.inner.Ranks.{HasRank}

@@ -1,10 +1,11 @@
 -- What the items of a tree come to where primitives have a truth.
 use Rattle.std.proofs.Common.{ℕ, zero, suc, Bool, if◌then◌else◌, Option, None, Some}
 use Rattle.match_expr.specs.Meaning.{eval_of}
-use Rattle.closure.specs.declared.modes.Mode.{Mode}
-use Rattle.closure.specs.declared.modes.Mode.TheVariants.{Hard, Soft}
+use Rattle.rewriting.specs.declared.rows.Mode.{Mode}
+use Rattle.rewriting.specs.declared.rows.Mode.TheVariants.{Hard, Soft}
 use Rattle.fw_rule.specs.declared.side.Side.{Side}
-use Rattle.closure.specs.Rewriting.{Tree, Done, Decide, Leave, Block, good, bad}
+use Rattle.closure.specs.Rewriting.{Tree, Done, Decide, Leave, Block}
+use Rattle.rewriting.specs.Table.{good, bad}
 use Rattle.closure.proofs.Outcomes.{Outcome, Good, Ends, Bad}
 
 -- what items come to: a verdict, past the end of `n` blocks more than this one, or their own end

@@ -7,13 +7,14 @@ use Rattle.fw_rule.specs.declared.rule.Chain.{Chain}
 use Rattle.fw_rule.specs.declared.rule.Dump.{Dump}
 use Rattle.fw_rule.specs.Matching.{doubt_in}
 use Rattle.fw_rule.specs.declared.side.Side.{Side}
-use Rattle.closure.specs.declared.modes.ActionKind.{ActionKind}
-use Rattle.closure.specs.declared.modes.ActionKind.TheVariants.{GoodVerdict, BadVerdict, GoOn, GoBack, CallTo, GoTo}
-use Rattle.closure.specs.declared.modes.Mode.{Mode}
-use Rattle.closure.specs.declared.modes.Mode.TheVariants.{Hard, Soft}
-use Rattle.closure.specs.declared.modes.Row.{Row}
+use Rattle.rewriting.specs.declared.kinds.ActionKind.{ActionKind}
+use Rattle.rewriting.specs.declared.kinds.ActionKind.TheVariants.{GoodVerdict, BadVerdict, GoOn, GoBack, CallTo, GoTo}
+use Rattle.rewriting.specs.declared.rows.Mode.{Mode}
+use Rattle.rewriting.specs.declared.rows.Mode.TheVariants.{Hard, Soft}
+use Rattle.rewriting.specs.declared.rows.Row.{Row}
 use Rattle.closure.specs.declared.skips.Skips.{Skips}
-use Rattle.closure.specs.Rewriting.{kind, row_of, items, rules_at, rules_of}
+use Rattle.closure.specs.Rewriting.{items, rules_at, rules_of}
+use Rattle.rewriting.specs.Table.{kind, row_of}
 use Rattle.closure.specs.inner.Skips.{is_softest, list_in, HaveSame, Leads, IsSkips, AreSkips}
 use Rattle.closure.proofs.FlatLemmas.{items_at}
 

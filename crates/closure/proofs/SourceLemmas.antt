@@ -15,10 +15,11 @@ use Rattle.fw_rule.specs.Walk.{Reaches, Here, RuleOf, target_of}
 use Rattle.fw_rule.proofs.Ends.{append}
 use Rattle.fw_rule.specs.declared.side.Side.{Side}
 use Rattle.closure.specs.declared.modes.Escape.{Escape}
-use Rattle.closure.specs.declared.modes.Mode.{Mode}
-use Rattle.closure.specs.declared.modes.Mode.TheVariants.{Soft}
-use Rattle.closure.specs.declared.modes.Row.{Row}
-use Rattle.closure.specs.Rewriting.{Tree, Done, Decide, Leave, Block, kind, row_of, shape, items, rules_of, tree}
+use Rattle.rewriting.specs.declared.rows.Mode.{Mode}
+use Rattle.rewriting.specs.declared.rows.Mode.TheVariants.{Soft}
+use Rattle.rewriting.specs.declared.rows.Row.{Row}
+use Rattle.closure.specs.Rewriting.{Tree, Done, Decide, Leave, Block, shape, items, rules_of, tree}
+use Rattle.rewriting.specs.Table.{kind, row_of}
 use Rattle.closure.specs.Flat.{escape, carried, stayed, escapes, flat_of, flat_list}
 use Rattle.match_expr.specs.Primitives.{joined, listed, primitives_in}
 use Rattle.closure.specs.Sources.{IsKnown, AreKnown}

@@ -10,8 +10,9 @@ use Rattle.fw_rule.specs.Walk.{Meaning, Walks, Settled, Within, Reaches, Here, i
 use Rattle.fw_rule.proofs.Ends.{append}
 use Rattle.fw_rule.specs.declared.side.Side.{Side}
 use Rattle.fw_rule.specs.Matching.{known_of, doubt_in}
-use Rattle.closure.specs.Rewriting.{kind, rules_of, tree}
-use Rattle.closure.specs.declared.modes.Mode.TheVariants.{Hard}
+use Rattle.closure.specs.Rewriting.{rules_of, tree}
+use Rattle.rewriting.specs.Table.{kind}
+use Rattle.rewriting.specs.declared.rows.Mode.TheVariants.{Hard}
 use Rattle.closure.specs.Flat.{flat_list}
 use Rattle.closure.proofs.Outcomes.{Outcome, best_row, best_rules, best, Truth, under, step_of, lits_hold, walked_rules, walked, truth_of}
 use Rattle.closure.specs.Sides.{IsSure}

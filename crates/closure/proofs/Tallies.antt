@@ -9,14 +9,15 @@ use Rattle.fw_rule.specs.declared.rule.Rule.{Rule}
 use Rattle.fw_rule.specs.declared.rule.Dump.{Dump}
 use Rattle.fw_rule.specs.Matching.{known_of, doubt_in}
 use Rattle.closure.specs.declared.modes.Escape.{Escape}
-use Rattle.closure.specs.declared.modes.Mode.{Mode}
-use Rattle.closure.specs.declared.modes.Mode.TheVariants.{Soft}
-use Rattle.closure.specs.declared.modes.Row.{Row}
+use Rattle.rewriting.specs.declared.rows.Mode.{Mode}
+use Rattle.rewriting.specs.declared.rows.Mode.TheVariants.{Soft}
+use Rattle.rewriting.specs.declared.rows.Row.{Row}
 use Rattle.closure.specs.declared.modes.RulesFrom.{RulesFrom}
 use Rattle.fw_rule.specs.declared.side.Side.{Side}
 use Rattle.closure.specs.declared.tally.Tally.{Tally}
 use Rattle.closure.specs.declared.tally.Way.{Way}
-use Rattle.closure.specs.Rewriting.{Tree, Done, Decide, Leave, Block, kind, row_of, shape, to_the_end, items, tree, rules_of}
+use Rattle.closure.specs.Rewriting.{Tree, Done, Decide, Leave, Block, shape, to_the_end, items, tree, rules_of}
+use Rattle.rewriting.specs.Table.{kind, row_of}
 use Rattle.closure.specs.inner.Items.{items_from, items_with}
 use Rattle.closure.specs.inner.Moves.{then_leave}
 use Rattle.closure.specs.inner.Tallies.{Numbers, Counts}

@@ -14,9 +14,10 @@ use Rattle.fw_rule.specs.declared.rule.Step.{Step}
 use Rattle.fw_rule.specs.Walk.{Meaning, same_step, same_place}
 use Rattle.fw_rule.specs.declared.side.Side.{Side}
 use Rattle.fw_rule.specs.Matching.{known_of, known_in, doubt_in}
-use Rattle.closure.specs.Rewriting.{kind, rules_of}
-use Rattle.closure.specs.declared.modes.ActionKind.{ActionKind}
-use Rattle.closure.specs.declared.modes.ActionKind.TheVariants.{GoodVerdict, BadVerdict, GoOn, GoBack, CallTo, GoTo}
+use Rattle.closure.specs.Rewriting.{rules_of}
+use Rattle.rewriting.specs.Table.{kind}
+use Rattle.rewriting.specs.declared.kinds.ActionKind.{ActionKind}
+use Rattle.rewriting.specs.declared.kinds.ActionKind.TheVariants.{GoodVerdict, BadVerdict, GoOn, GoBack, CallTo, GoTo}
 use Rattle.closure.proofs.Bounds.{of_known}
 use Rattle.closure.proofs.Outcomes.{truth_of, Outcome, Good, Ends, Bad, then_rest, or_rest, better, target_in, best_row, best_rules, best, Truth, under, step_of, lits_hold, walked_rules, walked}
 

@@ -7,12 +7,13 @@ use Rattle.fw_rule.specs.declared.rule.Rule.{Rule}
 use Rattle.fw_rule.specs.declared.rule.Dump.{Dump}
 use Rattle.fw_rule.specs.declared.side.Side.{Side}
 use Rattle.fw_rule.specs.Matching.{known_of, doubt_in}
-use Rattle.closure.specs.Rewriting.{Tree, kind, row_of, shape, to_the_end, items, rules_of, tree}
+use Rattle.closure.specs.Rewriting.{Tree, shape, to_the_end, items, rules_of, tree}
+use Rattle.rewriting.specs.Table.{kind, row_of}
 use Rattle.closure.proofs.Runs.{says, Ran, Says, Leaves, Through, after_block, ran, settle, expected}
-use Rattle.closure.specs.declared.modes.ActionKind.{ActionKind}
-use Rattle.closure.specs.declared.modes.ActionKind.TheVariants.{GoodVerdict, BadVerdict, GoOn, GoBack, CallTo, GoTo}
-use Rattle.closure.specs.declared.modes.Mode.{Mode}
-use Rattle.closure.specs.declared.modes.Mode.TheVariants.{Hard, Soft}
+use Rattle.rewriting.specs.declared.kinds.ActionKind.{ActionKind}
+use Rattle.rewriting.specs.declared.kinds.ActionKind.TheVariants.{GoodVerdict, BadVerdict, GoOn, GoBack, CallTo, GoTo}
+use Rattle.rewriting.specs.declared.rows.Mode.{Mode}
+use Rattle.rewriting.specs.declared.rows.Mode.TheVariants.{Hard, Soft}
 use Rattle.closure.proofs.Outcomes.{Outcome, Good, Ends, Bad, or_end, then_rest, or_rest, better, best_row, best_rules, best}
 
 settle_after : (r x : Ran) → settle (after_block r x) ≡ settle (after_block (settle r) (settle x))

@@ -3,16 +3,14 @@ ghost use Rattle.closure.specs.inner.Counts as spec;
 ghost use Rattle.closure.specs.inner.Counts.{capped, rules_items};
 ghost use Rattle.closure.specs.inner.Counted.{AreCounted};
 ghost use Rattle.closure.specs.Rewriting.{chain_tree, nodes};
-ghost use Rattle.closure.specs.inner.Items.{level};
+ghost use Rattle.rewriting.specs.Table.{level};
 ghost use Rattle.closure.specs.Checked.{IsRankedWithPolicy};
 
-use crate::modes::{Mode, Row};
-use crate::parts::kind_of;
 use crate::ranks::{has_rank, rank_of};
-use crate::rows::row_of;
 use chain_graph::Ranked;
 use fw_rule::{Dump, Rule, Side, doubtful};
 use match_expr::Primitive;
+use rewriting::{Mode, Row, kind_of, row_of};
 use std::alloc::{AllocError, Global};
 
 /// The numbers of items of a list of rules: in the hard mode and in the softest one. A sum stops at 2^64 - 1.

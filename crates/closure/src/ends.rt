@@ -1,19 +1,17 @@
 ghost use Rattle.std.specs.Prelude.{◌≡◌, ◌≤◌, ◌+◌, ◌-◌, ◌^◌, ◌<◌, IsTrue, IfOk, length};
 ghost use Rattle.fw_rule.specs.Matching.{doubt_in};
 ghost use Rattle.closure.specs.Checked.{IsRankedWithPolicy};
-ghost use Rattle.closure.specs.Rewriting as spec;
-ghost use Rattle.closure.specs.inner.Items.{level};
+ghost use Rattle.rewriting.specs.Table as spec;
+ghost use Rattle.rewriting.specs.Table.{level};
 ghost use Rattle.closure.specs.inner.Ends as spec_of;
 ghost use Rattle.closure.specs.inner.Ends.{MakesNone, IsQuiet, EndsWith, AreEnds, AreOver};
 
-use crate::modes::{Mode, Row};
-use crate::parts::kind_of;
 use crate::ranks::{has_rank, rank_of};
-use crate::rows::row_of;
 use crate::skips::either;
 use chain_graph::Ranked;
 use fw_rule::{Dump, Rule, Side, doubtful};
 use match_expr::Primitive;
+use rewriting::{Mode, Row, kind_of, row_of};
 use std::alloc::{AllocError, Global};
 
 /// From which rule of a chain on no verdict is made of its rules: in the hard mode, and in each soft one.

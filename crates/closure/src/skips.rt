@@ -1,17 +1,15 @@
 ghost use Rattle.std.specs.Prelude.{◌≡◌, ◌≤◌, ◌+◌, ◌-◌, ◌^◌, ◌<◌, if◌then◌else◌, Some, IsTrue, IfOk, length, slice_get};
 ghost use Rattle.fw_rule.specs.Matching.{doubt_in};
-ghost use Rattle.closure.specs.Rewriting as spec;
+ghost use Rattle.rewriting.specs.Table as spec;
 ghost use Rattle.closure.specs.Rewriting.{rules_of};
-ghost use Rattle.closure.specs.declared.modes.Row.TheVariants.{Skip};
-ghost use Rattle.closure.specs.inner.Items.{level};
+ghost use Rattle.rewriting.specs.declared.rows.Row.TheVariants.{Skip};
+ghost use Rattle.rewriting.specs.Table.{level};
 ghost use Rattle.closure.specs.inner.Skips as read;
 ghost use Rattle.closure.specs.inner.Skips.{Leads, AreSkips, HaveSame};
 
-use crate::modes::{Mode, Row};
-use crate::parts::kind_of;
-use crate::rows::row_of;
 use fw_rule::{Dump, Rule, Side, doubtful};
 use match_expr::{List, Primitive};
+use rewriting::{Mode, Row, kind_of, row_of};
 use std::alloc::{AllocError, Global};
 
 /// Of a chain's rules from each one on: the first of them that gives an item, or their number. They stand from behind: first comes that of no rule.

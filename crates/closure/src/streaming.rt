@@ -2,8 +2,9 @@ ghost use Rattle.std.specs.Prelude.{◌≡◌, ◌≤◌, ◌+◌, ◌-◌, ◌+
 ghost use Rattle.fw_rule.specs.Walk.{InSettled, RuleOf, Within};
 ghost use Rattle.closure.specs.Checked.{IsRankedWithPolicy};
 ghost use Rattle.closure.specs.Rewriting.{Block, chain_tree, to_the_end};
-ghost use Rattle.closure.specs.declared.modes.Mode.TheVariants.{Soft};
-ghost use Rattle.closure.specs.inner.Items.{level, items_from, items_with};
+ghost use Rattle.rewriting.specs.declared.rows.Mode.TheVariants.{Soft};
+ghost use Rattle.closure.specs.inner.Items.{items_from, items_with};
+ghost use Rattle.rewriting.specs.Table.{level};
 ghost use Rattle.closure.specs.inner.Moves.{Fills, IsBlind, Passes, Steps, then_leave};
 ghost use Rattle.closure.specs.inner.Skips.{AreSkips};
 ghost use Rattle.closure.specs.inner.Ends.{AreEnds, IsSilent};
@@ -12,14 +13,13 @@ ghost use Rattle.closure.specs.Stream.{stream, cut_out, IsCutByParts, IsSettled}
 
 use crate::cutting::{Needs, Passed, Sink, State};
 use crate::ends::{Ends, all_ends, end_of};
-use crate::modes::{Escape, Mode, Row, RulesFrom};
-use crate::parts::kind_of;
+use crate::modes::{Escape, RulesFrom};
 use crate::ranks::rank_of;
-use crate::rows::row_of;
 use crate::skips::{Skips, first_item, skips_of};
 use chain_graph::Ranked;
 use fw_rule::{Dump, Rule, Side, doubtful, known};
 use match_expr::{Expr, Items, Primitive};
+use rewriting::{Mode, Row, kind_of, row_of};
 use std::alloc::{AllocError, Global};
 
 /// What is looked up of the chains: where their next rules stand that give an item, and their last ones of which a verdict is made.

@@ -8,23 +8,23 @@ ghost use Rattle.closure.specs.inner.Counts.{capped};
 ghost use Rattle.closure.specs.inner.Totals.{lit_count, total_of, with_literals};
 ghost use Rattle.closure.specs.inner.Ways.{way_of};
 ghost use Rattle.closure.specs.Rewriting.{Tree, Block, chain_tree, to_the_end};
-ghost use Rattle.closure.specs.inner.Items.{level, items_from, items_with};
+ghost use Rattle.closure.specs.inner.Items.{items_from, items_with};
+ghost use Rattle.rewriting.specs.Table.{level};
 ghost use Rattle.closure.specs.inner.Moves.{then_leave};
 ghost use Rattle.closure.specs.inner.Tallies.{Counts};
 ghost use Rattle.closure.specs.inner.Skips.{AreSkips};
 ghost use Rattle.closure.specs.Flat.{escapes, flat_list, literals_in};
 ghost use Rattle.closure.specs.Stream.{stream};
 
-use crate::modes::{Mode, Row, RulesFrom};
-use crate::parts::kind_of;
+use crate::modes::RulesFrom;
 use crate::ranks::rank_of;
-use crate::rows::row_of;
 use crate::skips::{Skips, first_item, skips_of};
 use crate::streaming::{led_to, softest};
 use crate::tally::{Tally, no_tally};
 use chain_graph::Ranked;
 use fw_rule::{Dump, Lit, Rule, Side, doubtful};
 use match_expr::Primitive;
+use rewriting::{Mode, Row, kind_of, row_of};
 use std::alloc::{AllocError, Global};
 
 /// The number of primitives of a known literal; 0 of an unknown one. It stops at 2^64 - 1.

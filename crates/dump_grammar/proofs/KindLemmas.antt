@@ -4,6 +4,7 @@ use Rattle.std.specs.List.{AllByRecursion, find}
 use Rattle.std.specs.Prelude.{if◌then◌else◌, option_map}
 use Rattle.std.specs.Str.{bytes_eq}
 use Rattle.opt_table.specs.declared.kind.Kind.{Kind}
+use Rattle.opt_table.specs.declared.kind.Messages.{Messages}
 use Rattle.opt_table.specs.declared.kind.Side.{Side}
 use Rattle.opt_table.specs.declared.kind.Transport.{Transport}
 use Rattle.opt_table.specs.Options.{Form, Spelling, known_options}
@@ -59,7 +60,13 @@ each_known = (
                                 (Kind.Addresses Side.Source, refl),
                                 (
                                   (Kind.Addresses Side.Destination, refl),
-                                  ((Kind.States, refl), ((Kind.States, refl), ((Kind.Comment, refl), tt))),
+                                  (
+                                    (Kind.States, refl),
+                                    (
+                                      (Kind.States, refl),
+                                      ((Kind.Comment, refl), ((Kind.IcmpType Messages.Icmp, refl), ((Kind.IcmpType Messages.Icmpv6, refl), tt))),
+                                    ),
+                                  ),
                                 ),
                               ),
                             ),

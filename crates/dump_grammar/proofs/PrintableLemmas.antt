@@ -104,6 +104,7 @@ module _ {W : ℕ} where
   by_printable Reads groups Kind.States arguments negated neg e (text, m, (a, i, x)) = one_printable neg e _ x tt
   by_printable Reads groups Kind.Base arguments negated neg e says = absurd says
   by_printable Reads groups Kind.Comment arguments negated neg e (text, (a, n, x)) = one_printable neg e _ x tt
+  by_printable Reads groups (Kind.IcmpType messages) arguments negated neg e (text, k, (a, s, t, x)) = one_printable neg e _ x tt
 
   modules_printable : (name : Text) (gs : List Group) (rest : List (Lit (Prim_ W))) → AllByRecursion IsPrintableLiteral rest → AllByRecursion IsPrintableLiteral (modules_literals name gs ++ rest)
   modules_printable name gs rest are = by_cases (is_known_module name || option_follows gs)

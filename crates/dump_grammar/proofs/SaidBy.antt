@@ -1,5 +1,5 @@
 -- What each option says, for those who know its name.
-use Rattle.std.proofs.Common.{◌≡◌, ◌∙◌, ◌⊎◌, ℕ, List, [], ◌∷◌, Bool, Some, refl, sym, ap, subst, codes, inl, inr}
+use Rattle.std.proofs.Common.{◌≡◌, ◌∙◌, ◌≤◌, ◌⊎◌, ℕ, decimal, List, [], ◌∷◌, Bool, Some, refl, sym, ap, subst, codes, inl, inr}
 use Rattle.addr_text.specs.Nets.{IsRangeText}
 use Rattle.interval_set.specs.declared.set.Range.{Range}
 use Rattle.match_expr.specs.declared.expr.Expr.{Expr}
@@ -15,6 +15,11 @@ use Rattle.dump_grammar.specs.Lines.{Text}
 -- the module tcp or udp, and the number of its protocol
 abbrev pub IsPortModule : Text → ℕ → Type 0
 IsPortModule name n = ((name ≡ codes "tcp") × (n ≡ 6)) ⊎ ((name ≡ codes "udp") × (n ≡ 17))
+
+-- the module icmp or icmp6, its option for a type, and the number of its protocol
+abbrev pub IsTypeModule : Text → Text → ℕ → Type 0
+IsTypeModule name option n = ((name ≡ codes "icmp") × (option ≡ codes "--icmp-type") × (n ≡ 1))
+    ⊎ ((name ≡ codes "icmp6") × (option ≡ codes "--icmpv6-type") × (n ≡ 58))
 
 module _ {W : ℕ} (Reads : Text → ℕ → Type 0) (groups : List Group) (negated : Bool) where
   said : (name option : Text) (arguments : List Text) (expr : Expr (Prim_ W)) (row : Spelling)
@@ -103,3 +108,14 @@ module _ {W : ℕ} (Reads : Text → ℕ → Type 0) (groups : List Group) (nega
     unfolding row_of
     connection_state text m k o a i x =
         said (codes "conntrack") (codes "--ctstate") (text ∷ []) expr _ refl (m, (i, x)) current option arguments k o a
+
+    pub message_type : (name : Text) (n k : ℕ) (text : Text) → IsTypeModule name option n → current ≡ name → arguments ≡ text ∷ []
+        → k ≤ 254 → text ≡ decimal k
+        → expr ≡ Prim (Prim_.IcmpKind (record { proto = n; kind = k })) → Says Reads groups current option arguments negated expr
+    unfolding row_of
+    message_type name n k text (inl (c, o, p)) m a s t x =
+        said (codes "icmp") (codes "--icmp-type") (text ∷ []) expr _ refl
+        (k, (s, t, x ∙ ap (λ (q : ℕ). Prim (Prim_.IcmpKind (record { proto = q; kind = k }))) p)) current option arguments (m ∙ c) o a
+    message_type name n k text (inr (c, o, p)) m a s t x =
+        said (codes "icmp6") (codes "--icmpv6-type") (text ∷ []) expr _ refl
+        (k, (s, t, x ∙ ap (λ (q : ℕ). Prim (Prim_.IcmpKind (record { proto = q; kind = k }))) p)) current option arguments (m ∙ c) o a

@@ -1,5 +1,5 @@
 -- What an option says, by its kind.
-use Rattle.std.proofs.Common.{◌≡◌, ◌∙◌, ℕ, List, [], ◌∷◌, Bool, false, Option, Some, None, IfSome, refl, sym, ap, subst, inl, inr}
+use Rattle.std.proofs.Common.{◌≡◌, ◌∙◌, ◌≤◌, ℕ, decimal, List, [], ◌∷◌, Bool, false, Option, Some, None, IfSome, refl, sym, ap, subst, inl, inr}
 use Rattle.addr_text.specs.Nets.{IsRangeText}
 use Rattle.interval_set.specs.declared.set.Range.{Range}
 use Rattle.match_expr.specs.declared.expr.Expr.{Expr}
@@ -12,7 +12,7 @@ use Rattle.opt_table.specs.declared.kind.Kind.{Kind}
 use Rattle.opt_table.specs.declared.kind.Side.{Side}
 use Rattle.opt_table.specs.declared.kind.Transport.{Transport}
 use Rattle.opt_table.specs.Options.{Form, Spelling, either_port}
-use Rattle.opt_table.specs.Rows.{addresses_at, form_of, ports_at, transport_number}
+use Rattle.opt_table.specs.Rows.{addresses_at, form_of, messages_number, ports_at, transport_number}
 use Rattle.dump_grammar.specs.Arguments.{FormSays, IsPortList, IsPortRange, LineProtocol, Says}
 use Rattle.dump_grammar.specs.Groups.{Group, row_of}
 use Rattle.dump_grammar.specs.Kinds.{HasProtocol, form_named}
@@ -38,6 +38,9 @@ module _ {W : ℕ} (Reads : Text → ℕ → Type 0) (groups : List Group) where
   SaysBy Kind.States arguments negated e = (text : Text) × (m : ℕ)
       × ((arguments ≡ text ∷ []) × IsNameList state_names text m × (e ≡ Prim (Prim_.State m)))
   SaysBy Kind.Comment arguments negated e = (text : Text) × ((arguments ≡ text ∷ []) × (negated ≡ false) × (e ≡ Prim Prim_.Always))
+  SaysBy (Kind.IcmpType messages) arguments negated e = (text : Text) × (k : ℕ)
+      × ((arguments ≡ text ∷ []) × (k ≤ 254) × (text ≡ decimal k)
+      × (e ≡ Prim (Prim_.IcmpKind (record { proto = messages_number messages; kind = k }))))
   SaysBy Kind.Base arguments negated e = ⊥
 
   -- what arguments of the kind's form say, by equations
@@ -68,6 +71,9 @@ module _ {W : ℕ} (Reads : Text → ℕ → Type 0) (groups : List Group) where
   says_by Kind.Comment [] negated e says = absurd says
   says_by Kind.Comment (text ∷ []) negated e (n, x) = (text, (refl, n, x))
   says_by Kind.Comment (a ∷ b ∷ more) negated e says = absurd says
+  says_by (Kind.IcmpType messages) [] negated e says = absurd says
+  says_by (Kind.IcmpType messages) (text ∷ []) negated e (k, (s, t, x)) = (text, k, (refl, s, t, x))
+  says_by (Kind.IcmpType messages) (a ∷ b ∷ more) negated e says = absurd says
 
   abbrev SaysForm : Kind → Bool → Expr (Prim_ W) → List Text → Type 0
   SaysForm k negated e arguments = FormSays Reads groups (form_of k) arguments negated e
@@ -89,6 +95,8 @@ module _ {W : ℕ} (Reads : Text → ℕ → Type 0) (groups : List Group) where
   by_says Kind.States arguments negated e (text, m, (a, i, x)) =
       subst (SaysForm Kind.States negated e) (sym a) (m, (i, x))
   by_says Kind.Comment arguments negated e (text, (a, n, x)) = subst (SaysForm Kind.Comment negated e) (sym a) (n, x)
+  by_says (Kind.IcmpType messages) arguments negated e (text, k, (a, s, t, x)) =
+      subst (SaysForm (Kind.IcmpType messages) negated e) (sym a) (k, (s, t, x))
 
   -- what an option says is what its kind says
   pub says_as : (current option : Text) (arguments : List Text) (negated : Bool) (e : Expr (Prim_ W)) → Says Reads groups current option arguments negated e

@@ -16,7 +16,7 @@ use Rattle.primitives.specs.Words.{SpellsFlags}
 use Rattle.fw_rule.specs.declared.rule.Lit.{Lit}
 use Rattle.opt_table.specs.declared.kind.Kind.{Kind}
 use Rattle.opt_table.specs.Options.{either_port}
-use Rattle.opt_table.specs.Rows.{addresses_at, ports_at, transport_number}
+use Rattle.opt_table.specs.Rows.{addresses_at, messages_number, ports_at, transport_number}
 use Rattle.dump_grammar.specs.Arguments.{ArePortRanges, IsPortRange, Says}
 use Rattle.dump_grammar.specs.Groups.{Group, all_differ, base_of}
 use Rattle.dump_grammar.specs.Lines.{Text}
@@ -89,6 +89,10 @@ module _ {W : ℕ} (Reads : Text → ℕ → Type 0) (groups : List Group) where
         x ∙ ap (λ (q : ℕ). Prim (Prim_.State q)) states ∙ sym y
     by_once Kind.Base arguments negated d e says other = absurd says
     by_once Kind.Comment arguments negated d e (text, (a, n, x)) (other, (b, m, y)) = x ∙ sym y
+    by_once (Kind.IcmpType messages) arguments negated d e (text, k, (a, s, t, x)) (other, l, (b, r, u, y)) =
+        let same = same_only arguments text other a b in
+        let kind = decimal_injective k l (omega (arith, s)) (omega (arith, r)) (sym t ∙ same ∙ u) in
+        x ∙ ap (λ (q : ℕ). Prim (Prim_.IcmpKind (record { proto = messages_number messages; kind = q }))) kind ∙ sym y
 
     pub says_once : (current option : Text) (arguments : List Text) (negated : Bool) (d e : Expr (Prim_ W)) → Says Reads groups current option arguments negated d
         → Says Reads groups current option arguments negated e → d ≡ e

@@ -12,7 +12,7 @@ use Rattle.primitives.specs.Words.{SpellsProto, SpellsFlags}
 use Rattle.addr_text.specs.Nets.{IsRangeText}
 use Rattle.dump_grammar.specs.Lines.{Text}
 pub use Rattle.opt_table.specs.Options.{source_ports, destination_ports, either_port}
-use Rattle.opt_table.specs.Options.{Addresses, Comment, Flags, Form, Port, Ports, Spelling, States, Syn}
+use Rattle.opt_table.specs.Options.{Addresses, Comment, Flags, Form, IcmpType, Port, Ports, Spelling, States, Syn}
 use Rattle.dump_grammar.specs.Groups.{Group, Base, row_of}
 
 -- a port, or FIRST:LAST where FIRST isn't above LAST; ports are below 2^16
@@ -52,6 +52,8 @@ module _ {W : ℕ} (Reads : Text → ℕ → Type 0) (groups : List Group) where
   FormSays Syn [] negated expr = expr ≡ Prim (Prim_.Flags 23 2)
   FormSays States (text ∷ []) negated expr = (m : ℕ) × (IsNameList state_names text m × (expr ≡ Prim (Prim_.State m)))
   FormSays Comment (text ∷ []) negated expr = (negated ≡ false) × (expr ≡ Prim Prim_.Always)
+  FormSays (IcmpType n) (text ∷ []) negated expr =
+      (k : ℕ) × ((k ≤ 254) × (text ≡ decimal k) × (expr ≡ Prim (Prim_.IcmpKind (record { proto = n; kind = k }))))
   FormSays form arguments negated expr = ⊥
 
   -- what an option of the module `current` says with these arguments: its row tells the form

@@ -1,4 +1,4 @@
-ghost use Rattle.std.specs.Prelude.{◌≡◌, ◌∷◌, [], ◌^◌, ℕ, false, List as Seq, Some, IfSome, IfNone, IfOk};
+ghost use Rattle.std.specs.Prelude.{◌≡◌, ◌≤◌, ◌∷◌, [], ◌^◌, ℕ, decimal, false, List as Seq, Some, IfSome, IfNone, IfOk};
 ghost use Rattle.interval_set.specs.declared.set.Range.{Range as ARange};
 ghost use Rattle.interval_set.specs.Numbers.{IsWidth, has};
 ghost use Rattle.interval_set.specs.Spelling.{ranges_where};
@@ -14,18 +14,18 @@ ghost use Rattle.dump_grammar.specs.Groups.{Group as AGroup};
 ghost use Rattle.dump_grammar.specs.Kinds.{HasProtocol};
 ghost use Rattle.dump_grammar.specs.Lines.{Text, texts, words_of};
 ghost use Rattle.opt_table.specs.Options.{either_port};
-ghost use Rattle.opt_table.specs.Rows.{addresses_at, form_of, ports_at, transport_number};
+ghost use Rattle.opt_table.specs.Rows.{addresses_at, form_of, messages_number, ports_at, transport_number};
 
 use crate::addresses::address_test;
 use crate::base::only;
 use crate::pieces::first_word;
 use crate::ports::{port_list, port_range, port_set, range_set};
-use addr_text::{Family, read_range};
+use addr_text::{Family, read_number, read_range};
 use dump_token::Token;
 use interval_set::Set;
 use match_expr::{Boxed, Expr, Items};
-use opt_table::{Kind, Side, Transport};
-use primitives::{PortMatch, Prim_, read_flags, read_states};
+use opt_table::{Kind, Messages, Side, Transport};
+use primitives::{IcmpMatch, PortMatch, Prim_, read_flags, read_states};
 use std::alloc::{AllocError, Global};
 
 fn port_test<const W: u32>(side: Side, proto: u8, set: Set<16>) -> Expr<Prim_<W>>
@@ -204,6 +204,23 @@ fn comment<const W: u32>(arguments: &[Token], negated: bool) -> Option<Expr<Prim
     Some(Expr::Prim(Prim_::Always))
 }
 
+fn icmp_type<const W: u32>(messages: Messages, arguments: &[Token]) -> Option<Expr<Prim_<W>>>
+    ensures some { IfSome result (λ e. (text : Text) × (k : ℕ) × ((texts (words_of arguments.now) ≡ text ∷ []) × (k ≤ 254) × (text ≡ decimal k)
+        × (e ≡ OneTest (APrim.IcmpKind (record { proto = messages_number messages; kind = k }))))) }
+    ensures none { IfNone result ((text : Text) (k : ℕ) → texts (words_of arguments.now) ≡ text ∷ [] → k ≤ 254 → text ≡ decimal k → ⊥) }
+{
+    let Some(text) = only(arguments) else {
+        return None;
+    };
+    let Some(kind) = read_number(text, 254) else {
+        return None;
+    };
+    Some(Expr::Prim(Prim_::IcmpKind(IcmpMatch {
+        proto: messages.number(),
+        kind: kind as u8,
+    })))
+}
+
 /// What an option of this kind says with these arguments, where it says something. `protocol` is the one with ports
 /// that the line names, if it names one.
 pub(crate) fn said<F: Family<W>, const W: u32>(
@@ -231,5 +248,6 @@ pub(crate) fn said<F: Family<W>, const W: u32>(
         Kind::Addresses(side) => address_range::<F, W>(alloc, side, arguments),
         Kind::States => Ok(states(arguments)),
         Kind::Comment => Ok(comment(arguments, negated)),
+        Kind::IcmpType(messages) => Ok(icmp_type(messages, arguments)),
     }
 }

@@ -4,13 +4,14 @@ use Rattle.std.proofs.Math.Nat.{min-eq_left, suc-mul}
 use Rattle.std.proofs.lemmas.Bool.{cases_lt}
 use Rattle.std.proofs.lemmas.List.{length-append, length-map}
 use Rattle.std.specs.List.{flat_map}
-use Rattle.dump_grammar.specs.Lines.{Text, bare}
+use Rattle.dump_grammar.specs.Lines.{Text, Word, bare}
+use Rattle.name_set.specs.declared.pattern.Pattern.{Pattern}
 use Rattle.dump_print.specs.CubeLines.{choices_of}
 use Rattle.box_norm.specs.declared.cube.Cube.{Cube}
 use Rattle.box_norm.specs.declared.cube.SimpleRule.{SimpleRule}
-use Rattle.dump_print.specs.Helpers.{HelpedRule, helped_from, helper_lines, return_line, return_lines, returned_patterns, returned_protocols, verdict_text}
+use Rattle.dump_print.specs.Helpers.{HelpedRule, helped_from, helper_lines, return_line, return_lines, returned_patterns, returned_protocols, returned_types, type_return, verdict_text}
 use Rattle.dump_print.specs.Names.{name_word}
-use Rattle.dump_print.specs.Protocols.{protocol_text}
+use Rattle.dump_print.specs.Numbers.{protocol_text, protocols_of}
 use Rattle.dump_print.specs.Parts.{Axes, Choice, between, choices_in, rule_words, with_destinations, with_dports, with_flags, with_sports}
 use Rattle.dump_print.specs.Printed.{all_rule_lines, count_lines, lines_of_helper, lines_of_rule}
 use Rattle.dump_print.specs.Views.{count_of}
@@ -103,14 +104,20 @@ printed_count text_of W chain rules g xs ys m lines h e made =
 -- ---- the lines of a helper chain
 pub returns_count : {W : ℕ} (chain : Text) (cube : Cube W) →
     length (return_lines chain cube)
-    ≡ length (returned_patterns cube.in_name) + (length (returned_patterns cube.out_name) + length (returned_protocols cube.proto))
+    ≡ length (returned_patterns cube.in_name) + (length (returned_patterns cube.out_name) + (length (returned_protocols cube.proto) + length (returned_types cube.icmp)))
 returns_count chain cube =
-    length-append (map (λ pattern. return_line chain (codes "-i") (name_word pattern)) (returned_patterns cube.in_name)) _
-    ∙ (λ i. length-map (returned_patterns cube.in_name) (λ pattern. return_line chain (codes "-i") (name_word pattern)) i
-    + (length-append (map (λ pattern. return_line chain (codes "-o") (name_word pattern)) (returned_patterns cube.out_name))
-    (map (λ n. return_line chain (codes "-p") (bare (protocol_text n))) (returned_protocols cube.proto))
-    ∙ (λ j. length-map (returned_patterns cube.out_name) (λ pattern. return_line chain (codes "-o") (name_word pattern)) j
-    + length-map (returned_protocols cube.proto) (λ n. return_line chain (codes "-p") (bare (protocol_text n))) j)) i)
+    let in_line : Pattern → List Word = λ pattern. return_line chain (codes "-i") (name_word pattern) in
+    let out_line : Pattern → List Word = λ pattern. return_line chain (codes "-o") (name_word pattern) in
+    let protocol_line : ℕ → List Word = λ n. return_line chain (codes "-p") (bare (protocol_text n)) in
+    let type_line : ℕ → List Word = λ n. type_return chain (protocols_of cube.proto) n in
+    let protocols : List (List Word) = map protocol_line (returned_protocols cube.proto) in
+    let types : List (List Word) = map type_line (returned_types cube.icmp) in
+    length-append (map in_line (returned_patterns cube.in_name)) _
+    ∙ (λ i. length-map (returned_patterns cube.in_name) in_line i
+    + (length-append (map out_line (returned_patterns cube.out_name)) (protocols ++ types)
+    ∙ (λ j. length-map (returned_patterns cube.out_name) out_line j
+    + (length-append protocols types
+    ∙ (λ k. length-map (returned_protocols cube.proto) protocol_line k + length-map (returned_types cube.icmp) type_line k)) j)) i)
 
 pub helper_count : {W : ℕ} (chain : Text) (rule : SimpleRule W) → length (helper_lines chain rule) ≡ length (return_lines chain rule.cube) + 1
 helper_count chain rule = length-append (return_lines chain rule.cube) (rule_words chain [] (verdict_text rule.accept) ∷ [])

@@ -1,9 +1,9 @@
--- Helper chains are numbered in order; the protocols that a set lacks.
+-- Helper chains are numbered in order; the numbers that a set lacks.
 use Rattle.std.proofs.Common.{◌≡◌, ◌∙◌, ◌++◌, ◌+◌, ◌-◌, ◌<◌, ◌≤◌, ℕ, zero, suc, List, [], ◌∷◌, Bool, true, false, Option, Some, None, is_some, length, map, drop, get_or, if◌then◌else◌, refl, ap, sym, append_assoc, arith}
 use Rattle.std.proofs.lemmas.List.{drop_all, drop_more, map-append, append-nil}
 use Rattle.box_norm.specs.declared.cube.SimpleRule.{SimpleRule}
 use Rattle.dump_print.specs.Helpers.{HelpedRule, helped_from, needs_helper}
-use Rattle.dump_print.specs.Protocols.{numbers_from}
+use Rattle.dump_print.specs.Numbers.{numbers_from}
 
 -- ---- numbers of helper chains
 abbrev pub number_of : Bool → ℕ → Option ℕ
@@ -46,7 +46,7 @@ pub helped_all : {W : ℕ} {X : Type 0} (g : X → HelpedRule W) (rules : List (
 helped_all g rules i all next whole l h =
     sym (append-nil (map g all)) ∙ ap (λ rs. map g all ++ helped_from next rs) (sym (drop_all i rules l)) ∙ h
 
--- ---- protocols
+-- ---- numbers of a range
 numbers_last : (first k : ℕ) → numbers_from first (suc k) ≡ numbers_from first k ++ (first + k) ∷ []
 numbers_last first zero = ap (λ n. n ∷ []) (omega arith)
 numbers_last first (suc k) =

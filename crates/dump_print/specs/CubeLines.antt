@@ -4,9 +4,9 @@ use Rattle.box_norm.specs.declared.cube.Cube.{Cube}
 use Rattle.dump_grammar.specs.Lines.{Text, Word}
 use Rattle.dump_print.specs.Addresses.{net_words}
 use Rattle.dump_print.specs.Flags.{cubes_of}
-use Rattle.dump_print.specs.Parts.{Axes, Choice, choices_in, name_words, protocol_words, iprange_words, own_module_words, own_words, listed_words, state_words}
+use Rattle.dump_print.specs.Parts.{Axes, Choice, choices_in, name_words, protocol_words, iprange_words, own_module_words, own_words, listed_words, state_words, type_words}
 use Rattle.dump_print.specs.Ports.{port_choices}
-use Rattle.dump_print.specs.Protocols.{protocols_of}
+use Rattle.dump_print.specs.Numbers.{protocols_of, types_of}
 
 -- what the lines of a cube say, each dimension by itself
 abbrev pub axes_of : {W : ℕ} → Cube W → Axes
@@ -36,8 +36,9 @@ module _ (text_of : ℕ → Text) (W : ℕ) where
   module_option_words cube line =
       iprange_words text_of W line.source line.destination
       ++ (own_module_words (protocols_of cube.proto) (own_words line.sports line.dports line.flags)
+      ++ (type_words (protocols_of cube.proto) (types_of cube.icmp)
       ++ (listed_words (codes "--sports") line.sports ++ (listed_words (codes "--dports") line.dports
-      ++ state_words cube.state)))
+      ++ state_words cube.state))))
 
   -- what a line says of the packets
   abbrev pub part_words : Cube W → Choice → List Word

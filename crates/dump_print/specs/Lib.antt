@@ -4,11 +4,11 @@ pub mod FlagCover
 pub mod Flags
 pub mod Helpers
 pub mod Names
+pub mod Numbers
 pub mod Parts
 pub mod PortCover
 pub mod Ports
 pub mod Printed
-pub mod Protocols
 pub mod Spelling
 pub mod Views
 pub mod Written

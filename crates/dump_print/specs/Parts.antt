@@ -1,5 +1,5 @@
 -- The parts of a rule line, each a list of words.
-use Rattle.std.specs.Prelude.{ℕ, ◌==◌, ◌++◌, ◌∷◌, [], List, Bool, true, false, map, codes, if◌then◌else◌}
+use Rattle.std.specs.Prelude.{ℕ, ◌==◌, ◌++◌, ◌∷◌, [], List, Bool, true, false, map, codes, decimal, if◌then◌else◌}
 use Rattle.std.specs.List.{flat_map}
 use Rattle.interval_set.specs.declared.set.Range.{Range}
 use Rattle.name_set.specs.declared.pattern.Pattern.{Pattern}
@@ -11,8 +11,8 @@ use Rattle.dump_print.specs.declared.flags.FlagCube.{FlagCube}
 use Rattle.dump_print.specs.Addresses.{range_words}
 use Rattle.dump_print.specs.Names.{name_word, is_every_name, is_plain_names}
 use Rattle.dump_print.specs.Ports.{Ports, port_list, port_text}
-use Rattle.dump_print.specs.declared.protocols.Protocols.{Protocols}
-use Rattle.dump_print.specs.Protocols.{protocol_text}
+use Rattle.dump_print.specs.declared.numbers.Numbers.{Numbers}
+use Rattle.dump_print.specs.Numbers.{protocol_text}
 
 -- an option and its argument
 abbrev pub option_words : Text → Word → List Word
@@ -41,11 +41,23 @@ except_words option names = if is_plain_names names then flat_map (λ p. negated
 abbrev pub name_words : Text → NameSet → List Word
 name_words option names = base_words option names.base ++ except_words option names
 
-abbrev pub protocol_words : Protocols → List Word
-protocol_words Protocols.Every = []
-protocol_words (Protocols.Only n) = option_words (codes "-p") (bare (protocol_text n))
-protocol_words (Protocols.AllBut n) = negated_words (codes "-p") (bare (protocol_text n))
-protocol_words Protocols.Others = []
+-- numbers as an option says them, where one line can
+abbrev pub number_words : Text → (ℕ → Text) → Numbers → List Word
+number_words option text_of Numbers.Every = []
+number_words option text_of (Numbers.Only n) = option_words option (bare (text_of n))
+number_words option text_of (Numbers.AllBut n) = negated_words option (bare (text_of n))
+number_words option text_of Numbers.Others = []
+
+abbrev pub protocol_words : Numbers → List Word
+protocol_words protocols = number_words (codes "-p") protocol_text protocols
+
+-- the types of messages, where the protocols are one whose messages have types
+abbrev pub type_words : Numbers → Numbers → List Word
+type_words (Numbers.Only n) types =
+    if n == 1 then module_words (codes "icmp") (number_words (codes "--icmp-type") decimal types)
+    else if n == 58 then module_words (codes "icmp6") (number_words (codes "--icmpv6-type") decimal types)
+    else []
+type_words _ types = []
 
 -- a range of ports as an option of tcp or udp
 abbrev pub single_words : Text → Ports → List Word
@@ -69,8 +81,8 @@ abbrev pub own_words : Ports → Ports → FlagCube → List Word
 own_words sports dports flags = single_words (codes "--sport") sports ++ (single_words (codes "--dport") dports ++ flags_words flags)
 
 -- the module of tcp or udp, where the protocols are one of these
-abbrev pub own_module_words : Protocols → List Word → List Word
-own_module_words (Protocols.Only n) words =
+abbrev pub own_module_words : Numbers → List Word → List Word
+own_module_words (Numbers.Only n) words =
     if n == 6 then module_words (codes "tcp") words
     else if n == 17 then module_words (codes "udp") words
     else []

@@ -5,7 +5,7 @@ use Rattle.interval_set.specs.declared.set.Range.{Range}
 use Rattle.dump_grammar.specs.Lines.{Text}
 use Rattle.dump_print.specs.declared.ports.LinePorts.{LinePorts}
 use Rattle.dump_print.specs.Addresses.{is_everything}
-use Rattle.dump_print.specs.declared.protocols.Protocols.{Protocols}
+use Rattle.dump_print.specs.declared.numbers.Numbers.{Numbers}
 
 -- PORT, or FIRST:LAST
 abbrev pub port_text : Range → Text
@@ -42,12 +42,12 @@ pub data Ports : Type 0 where
   Listed : (rs : List Range) → Ports
 
 -- whether the protocols are one that has a module with port options of its own
-abbrev pub has_port_module : Protocols → Bool
-has_port_module (Protocols.Only n) = (n == 6) || (n == 17)
+abbrev pub has_port_module : Numbers → Bool
+has_port_module (Numbers.Only n) = (n == 6) || (n == 17)
 has_port_module _ = false
 
 -- what the lines of a set of ports say, one after another
-abbrev pub port_choices : Protocols → List Range → List Ports
+abbrev pub port_choices : Numbers → List Range → List Ports
 port_choices protocols (r ∷ []) =
     if is_everything 16 r then Ports.Every ∷ []
     else if has_port_module protocols then Ports.Single r ∷ []

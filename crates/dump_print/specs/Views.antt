@@ -10,7 +10,7 @@ use Rattle.dump_print.specs.Helpers.{HelpedRule}
 use Rattle.dump_print.specs.Parts.{Axes, Choice, rule_words}
 use Rattle.dump_print.specs.Ports.{ports_of}
 use Rattle.dump_print.specs.Printed.{lines_of_helper}
-use Rattle.dump_print.specs.Protocols.{protocols_of}
+use Rattle.dump_print.specs.Numbers.{protocols_of, types_of}
 
 abbrev pub choice_of : Line → Choice
 choice_of line = record {
@@ -30,9 +30,9 @@ axes_in axes = record {
   flags = axes.flags.now;
 }
 
--- the protocols are those of the cube
+-- the protocols and the types of messages are those of the cube
 abbrev pub IsFrame : {W : ℕ} → Frame W → Type 0
-IsFrame frame = frame.protocols ≡ protocols_of frame.cube.now.proto
+IsFrame frame = (frame.protocols ≡ protocols_of frame.cube.now.proto) × (frame.types ≡ types_of frame.cube.now.icmp)
 
 abbrev pub helped_of : {W : ℕ} → Helped W → HelpedRule W
 helped_of helped = record { rule = helped.rule.now; helper = helped.helper }

@@ -7,9 +7,9 @@ ghost use Rattle.dump_print.specs.Printed.{lines_of_helper};
 ghost use Rattle.dump_print.specs.Views.{count_of, helped_of};
 
 use crate::flags::flag_cubes;
-use crate::helpers::{Helped, returned_patterns, returned_protocols};
+use crate::helpers::{Helped, returned_numbers, returned_patterns};
+use crate::numbers::{line_protocols, line_types};
 use crate::ports::line_ports;
-use crate::protocols::line_protocols;
 use box_norm::{Cube, SimpleRule};
 use std::alloc::{AllocError, Global};
 
@@ -31,10 +31,12 @@ fn count_cube<const W: u32>(alloc: Global, cube: &Cube<W>) -> Result<u64, AllocE
 fn count_returns<const W: u32>(alloc: Global, cube: &Cube<W>) -> Result<u64, AllocError>
     ensures { (chain : List ℕ) → IfOk result (λ count. count ≡ min (length (return_lines chain cube.now)) (2 ^ 64 - 1)) }
 {
-    let protocols = returned_protocols(alloc, &cube.proto)?;
+    let protocols = returned_numbers(alloc, line_protocols(alloc, &cube.proto)?, &cube.proto)?;
+    let types = returned_numbers(alloc, line_types(alloc, &cube.icmp)?, &cube.icmp)?;
     let in_names = returned_patterns(&cube.in_name).len() as u64;
     let out_names = returned_patterns(&cube.out_name).len() as u64;
-    let others = out_names.saturating_add(protocols.as_slice().len() as u64);
+    let numbers = (protocols.as_slice().len() as u64).saturating_add(types.as_slice().len() as u64);
+    let others = out_names.saturating_add(numbers);
     Ok(in_names.saturating_add(others))
 }
 

@@ -1,14 +1,16 @@
 //! Numbers helper chains, and writes what no line can say.
 ghost use Rattle.std.specs.Prelude.{◌≡◌, ◌++◌, ◌+◌, ◌-◌, ◌^◌, ◌<◌, ◌≤◌, OnOk, IfOk, Some, None, is_some, codes, map, if◌then◌else◌};
-ghost use Rattle.dump_print.specs.Helpers.{helped_from, helper_lines, helper_name, needs_helper, return_line, return_lines, returned_patterns, returned_protocols, verdict_text};
+ghost use Rattle.dump_print.specs.Helpers.{helped_from, helper_lines, helper_name, needs_helper, return_line, return_lines, returned_numbers, returned_patterns, type_return, verdict_text};
 ghost use Rattle.dump_print.specs.Names.{name_word};
 ghost use Rattle.dump_grammar.specs.Lines.{bare};
-ghost use Rattle.dump_print.specs.Protocols.{is_plain_protocols, lacking, numbers_from, protocol_text};
+ghost use Rattle.dump_print.specs.Numbers.{lacking, numbers_from, protocol_text};
 ghost use Rattle.dump_print.specs.Spelling.{lines_text};
 ghost use Rattle.dump_print.specs.Views.{helped_of};
 
 use crate::lines::{append_end, append_start};
-use crate::protocols::{Protocols, append_protocol, line_protocols};
+use crate::numbers::{
+    Numbers, append_protocol, append_protocols, append_types, line_protocols, line_types,
+};
 use crate::sets::{append_pattern_option, is_plain};
 use box_norm::{Cube, SimpleRule};
 use interval_set::{Range, Set};
@@ -23,19 +25,14 @@ pub(crate) struct Helped<'a, const W: u32> {
     pub helper: Option<u64>,
 }
 
-// Whether one line can say the protocols.
-fn are_plain(protocols: Protocols) -> bool
-    ensures { result ≡ is_plain_protocols protocols }
-{
-    !matches!(protocols, Protocols::Others)
-}
-
-// Whether one line can't say the names of an interface or the protocols.
+// Whether one line can't say the names of an interface, the protocols or the types of messages.
 fn needs_helper<const W: u32>(alloc: Global, cube: &Cube<W>) -> Result<bool, AllocError>
     ensures { IfOk result (λ needs. needs ≡ needs_helper cube.now) }
 {
     let protocols = line_protocols(alloc, &cube.proto)?;
-    Ok(!(is_plain(&cube.in_name) && is_plain(&cube.out_name) && are_plain(protocols)))
+    let types = line_types(alloc, &cube.icmp)?;
+    let are_plain = protocols.are_plain() && types.are_plain();
+    Ok(!(is_plain(&cube.in_name) && is_plain(&cube.out_name) && are_plain))
 }
 
 // The number of the cube's helper chain, where it needs one.
@@ -110,7 +107,7 @@ pub(crate) fn returned_patterns(names: &NameSet) -> &[Pattern]
     }
 }
 
-// Appends the numbers of a range of protocols.
+// Appends the numbers of a range.
 fn push_numbers(range: Range, numbers: &mut Vec<u8>) -> Result<(), AllocError>
     requires ordered { range.lo ≤ range.hi }
     requires within { range.hi ≤ 255 }
@@ -122,8 +119,8 @@ fn push_numbers(range: Range, numbers: &mut Vec<u8>) -> Result<(), AllocError>
     Ok(())
 }
 
-// The protocols that a set lacks.
-fn lacking_protocols(alloc: Global, set: &Set<8>) -> Result<Vec<u8>, AllocError>
+// The numbers that a set lacks.
+fn lacking_numbers(alloc: Global, set: &Set<8>) -> Result<Vec<u8>, AllocError>
     ensures { IfOk result (λ v. v.items ≡ lacking set.now) }
 {
     let others = set.not(alloc)?;
@@ -134,15 +131,18 @@ fn lacking_protocols(alloc: Global, set: &Set<8>) -> Result<Vec<u8>, AllocError>
     Ok(numbers)
 }
 
-/// The protocols that a set lacks, unless a line says them.
-pub(crate) fn returned_protocols(alloc: Global, set: &Set<8>) -> Result<Vec<u8>, AllocError>
-    ensures { IfOk result (λ v. v.items ≡ returned_protocols set.now) }
+/// The numbers that a set lacks, unless a line says the set.
+pub(crate) fn returned_numbers(
+    alloc: Global,
+    said: Numbers,
+    set: &Set<8>,
+) -> Result<Vec<u8>, AllocError>
+    ensures { IfOk result (λ v. v.items ≡ returned_numbers said set.now) }
 {
-    let protocols = line_protocols(alloc, set)?;
-    if are_plain(protocols) {
+    if said.are_plain() {
         Ok(Vec::new(alloc))
     } else {
-        lacking_protocols(alloc, set)
+        lacking_numbers(alloc, set)
     }
 }
 
@@ -181,6 +181,24 @@ fn append_protocol_returns(
     Ok(())
 }
 
+// Appends a line for each type, by which messages of it go back to the asked chain.
+fn append_type_returns(
+    chain: &[u8],
+    protocols: Numbers,
+    numbers: &[u8],
+    out: &mut Vec<u8>,
+) -> Result<(), AllocError>
+    ensures { OnOk result (out.new.items ≡ out.old.items ++ lines_text (map (λ n. type_return chain.now protocols n) numbers.now)) }
+{
+    for number in numbers {
+        append_start(chain, out)?;
+        append_protocols(protocols, out)?;
+        append_types(protocols, Numbers::Only(*number), out)?;
+        append_end(b"RETURN", out)?;
+    }
+    Ok(())
+}
+
 // Appends the lines by which what the cube excludes goes back to the asked chain.
 fn append_returns<const W: u32>(
     alloc: Global,
@@ -190,10 +208,13 @@ fn append_returns<const W: u32>(
 ) -> Result<(), AllocError>
     ensures { OnOk result (out.new.items ≡ out.old.items ++ lines_text (return_lines chain.now cube.now)) }
 {
-    let protocols = returned_protocols(alloc, &cube.proto)?;
+    let protocols = line_protocols(alloc, &cube.proto)?;
+    let returned_protocols = returned_numbers(alloc, protocols, &cube.proto)?;
+    let returned_types = returned_numbers(alloc, line_types(alloc, &cube.icmp)?, &cube.icmp)?;
     append_name_returns(chain, b"-i", returned_patterns(&cube.in_name), out)?;
     append_name_returns(chain, b"-o", returned_patterns(&cube.out_name), out)?;
-    append_protocol_returns(chain, protocols.as_slice(), out)
+    append_protocol_returns(chain, returned_protocols.as_slice(), out)?;
+    append_type_returns(chain, protocols, returned_types.as_slice(), out)
 }
 
 /// Appends the lines of a rule's helper chain.

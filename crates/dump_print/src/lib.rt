@@ -9,9 +9,9 @@ mod helpers;
 mod laws;
 mod lines;
 mod names;
+mod numbers;
 mod ports;
 mod printing;
-mod protocols;
 mod sets;
 mod writer;
 
@@ -19,5 +19,5 @@ pub use fault::PrintFault;
 pub use flags::FlagCube;
 pub use laws::{flags_are_kept, ports_are_kept, words_are_kept};
 pub use names::pattern_text;
+pub use numbers::Numbers;
 pub use printing::{Printed, print};
-pub use protocols::Protocols;

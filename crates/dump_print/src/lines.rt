@@ -13,8 +13,8 @@ ghost use Rattle.dump_print.specs.Views.{IsFrame, axes_in, choice_of, frame_word
 
 use crate::addresses::{append_net, append_ranges};
 use crate::flags::{FlagCube, flag_cubes};
+use crate::numbers::{Numbers, append_protocols, append_types, line_protocols, line_types};
 use crate::ports::{LinePorts, append_listed, append_single, line_ports};
-use crate::protocols::{Protocols, append_protocols, line_protocols};
 use crate::sets::append_names;
 use crate::writer::{append_word, append_words};
 use addr_text::Family;
@@ -48,7 +48,8 @@ pub(crate) struct LineAxes<'a> {
 pub(crate) struct Frame<'a, const W: u32> {
     pub chain: &'a [u8],
     pub cube: &'a Cube<W>,
-    pub protocols: Protocols,
+    pub protocols: Numbers,
+    pub types: Numbers,
     pub target: &'a [u8],
 }
 
@@ -142,13 +143,13 @@ fn append_module(name: &[u8], line: Line, out: &mut Vec<u8>) -> Result<(), Alloc
 }
 
 // Appends the options of tcp or udp itself, where the protocols are one of these.
-fn append_own_module(protocols: Protocols, line: Line, out: &mut Vec<u8>) -> Result<(), AllocError>
+fn append_own_module(protocols: Numbers, line: Line, out: &mut Vec<u8>) -> Result<(), AllocError>
     ensures { OnOk result (out.new.items ≡ out.old.items
         ++ spaced (own_module_words protocols (own_words (choice_of line.entry).sports (choice_of line.entry).dports line.entry.flags))) }
 {
     match protocols {
-        Protocols::Only(6) => append_module(b"tcp", line, out),
-        Protocols::Only(17) => append_module(b"udp", line, out),
+        Numbers::Only(6) => append_module(b"tcp", line, out),
+        Numbers::Only(17) => append_module(b"udp", line, out),
         _ => Ok(()),
     }
 }
@@ -208,6 +209,7 @@ fn append_module_options<F: Family<W>, const W: u32>(
 {
     append_ranges::<F, W>(line.source, line.destination, out)?;
     append_own_module(frame.protocols, line, out)?;
+    append_types(frame.protocols, frame.types, out)?;
     append_listed(b"--sports", line.sports, out)?;
     append_listed(b"--dports", line.dports, out)?;
     append_state_words(frame.cube.state, out)
@@ -295,6 +297,7 @@ pub(crate) fn append_cube<F: Family<W>, const W: u32>(
         ++ lines_text (map (λ line. rule_words chain.now (part_words F.text_of W cube.now line) target.now) (choices_of cube.now))) }
 {
     let protocols = line_protocols(alloc, &cube.proto)?;
+    let types = line_types(alloc, &cube.icmp)?;
     let sports = line_ports(alloc, protocols, &cube.sport)?;
     let dports = line_ports(alloc, protocols, &cube.dport)?;
     let flags = flag_cubes(alloc, cube.flags)?;
@@ -309,6 +312,7 @@ pub(crate) fn append_cube<F: Family<W>, const W: u32>(
         chain,
         cube,
         protocols,
+        types,
         target,
     };
     append_each::<F, W>(&frame, &axes, out)

@@ -3,7 +3,7 @@ ghost use Rattle.dump_print.specs.Parts.{listed_words, single_words};
 ghost use Rattle.dump_print.specs.Ports.{Ports, chunks, has_port_module, port_choices, port_list, port_text, ports_of, weight_of};
 ghost use Rattle.dump_print.specs.Spelling.{spaced};
 
-use crate::protocols::Protocols;
+use crate::numbers::Numbers;
 use crate::writer::{append_word, append_words};
 use interval_set::{Range, Set};
 use primitives::append_number;
@@ -59,14 +59,14 @@ fn lists<'a>(alloc: Global, ranges: &'a [Range]) -> Result<Vec<LinePorts<'a>>, A
 }
 
 // Whether the protocol has a module with port options of its own.
-fn has_module(protocols: Protocols) -> bool
+fn has_module(protocols: Numbers) -> bool
     ensures { result ≡ has_port_module protocols }
 {
-    matches!(protocols, Protocols::Only(6 | 17))
+    matches!(protocols, Numbers::Only(6 | 17))
 }
 
 // What a line says of one range of ports.
-fn one_range<'a>(protocols: Protocols, ranges: &'a [Range], range: Range) -> LinePorts<'a>
+fn one_range<'a>(protocols: Numbers, ranges: &'a [Range], range: Range) -> LinePorts<'a>
     requires { ranges.now ≡ range ∷ [] }
     ensures { ports_of result ∷ [] ≡ port_choices protocols ranges.now }
 {
@@ -82,7 +82,7 @@ fn one_range<'a>(protocols: Protocols, ranges: &'a [Range], range: Range) -> Lin
 /// What the lines of a cube say of a set of ports, one after another.
 pub(crate) fn line_ports<'a>(
     alloc: Global,
-    protocols: Protocols,
+    protocols: Numbers,
     set: &'a Set<16>,
 ) -> Result<Vec<LinePorts<'a>>, AllocError>
     ensures { IfOk result (λ v. map ports_of v.items ≡ port_choices protocols set.now) }

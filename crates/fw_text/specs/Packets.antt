@@ -13,9 +13,9 @@ names_text p = codes " in=" ++ shown_name p.in_name ++ codes " out=" ++ shown_na
 abbrev pub numbers_text : Packet → List ℕ
 numbers_text p = codes " proto=" ++ decimal p.proto ++ codes " sport=" ++ decimal p.sport ++ codes " dport=" ++ decimal p.dport
 
--- the flags and the name of the state
+-- the flags, the name of the state and the type of a message
 abbrev pub rest_text : Packet → List ℕ
-rest_text p = codes " flags=" ++ flags_text p.flags ++ codes " state=" ++ name_of state_names p.state
+rest_text p = codes " flags=" ++ flags_text p.flags ++ codes " state=" ++ name_of state_names p.state ++ codes " icmp=" ++ decimal p.icmp
 
 -- `text_of` is the one text of an address
 module _ (text_of : ℕ → List ℕ) where

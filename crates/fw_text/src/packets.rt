@@ -4,7 +4,7 @@ ghost use Rattle.fw_text.specs.Packets.{addresses_text, names_text, numbers_text
 
 use crate::names::shown;
 use addr_text::Family;
-use primitives::{Packet, append_flags, append_state};
+use primitives::{Packet, append_flags, append_number, append_state};
 use std::alloc::{AllocError, Global};
 
 // Appends the shown names of both interfaces.
@@ -39,18 +39,20 @@ fn append_numbers(alloc: Global, p: &Packet, out: &mut Vec<u8>) -> Result<(), Al
     out.extend_from_slice(text.as_bytes())
 }
 
-// Appends the flags and the state.
+// Appends the flags, the state and the type of a message.
 fn append_rest(p: &Packet, out: &mut Vec<u8>) -> Result<(), AllocError>
     ensures { OnOk result (out.new.items ≡ out.old.items ++ rest_text p.now) }
 {
     out.extend_from_slice(b" flags=")?;
     append_flags(p.flags, out)?;
     out.extend_from_slice(b" state=")?;
-    append_state(p.state, out)
+    append_state(p.state, out)?;
+    out.extend_from_slice(b" icmp=")?;
+    append_number(p.icmp as u128, out)
 }
 
-/// Appends the fields of a valid packet, with a space before each: ` in=I out=O src=A dst=B proto=N sport=P dport=Q flags=F state=S`.
-/// I and O are the shown names of the interfaces, N, P and Q are decimal numbers, F is a list of flags of tcp or NONE, and S is the
+/// Appends the fields of a valid packet, with a space before each: ` in=I out=O src=A dst=B proto=N sport=P dport=Q flags=F state=S icmp=T`.
+/// I and O are the shown names of the interfaces, N, P, Q and T are decimal numbers, F is a list of flags of tcp or NONE, and S is the
 /// state's name. W is the number of bits of an address. Without memory `out` is as before.
 pub fn packet_text<F: Family<W>, const W: u32>(
     alloc: Global,

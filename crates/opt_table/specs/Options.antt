@@ -28,6 +28,7 @@ pub data Form : Type 0 where
   Syn : Form
   States : Form
   Comment : Form
+  IcmpType : (proto : ℕ) → Form
   Port : ((W : ℕ) → List Range → Expr (Prim_ W)) → Form
   Ports : ((W : ℕ) → ℕ → List Range → Expr (Prim_ W)) → Form
   Addresses : ((W : ℕ) → List Range → Prim_ W) → Form
@@ -63,4 +64,6 @@ known_options =
     row (codes "iprange") (codes "--dst-range") 1 (Addresses (λ W rs. Prim_.Dst rs)) ∷
     row (codes "state") (codes "--state") 1 States ∷
     row (codes "conntrack") (codes "--ctstate") 1 States ∷
-    row (codes "comment") (codes "--comment") 1 Comment ∷ []
+    row (codes "comment") (codes "--comment") 1 Comment ∷
+    row (codes "icmp") (codes "--icmp-type") 1 (IcmpType 1) ∷
+    row (codes "icmp6") (codes "--icmpv6-type") 1 (IcmpType 58) ∷ []

@@ -1,5 +1,5 @@
 ghost use Rattle.std.specs.Prelude.{◌≡◌};
-ghost use Rattle.opt_table.specs.Rows.{transport_number};
+ghost use Rattle.opt_table.specs.Rows.{messages_number, transport_number};
 
 /// An end of a packet's way.
 #[derive(Clone, Copy)]
@@ -29,6 +29,25 @@ impl Transport {
     }
 }
 
+/// A protocol whose messages have a type.
+#[derive(Clone, Copy)]
+pub enum Messages {
+    Icmp,
+    Icmpv6,
+}
+
+impl Messages {
+    /// The number of the protocol, as IANA assigns it.
+    pub fn number(self) -> u8
+        ensures { result ≡ messages_number self }
+    {
+        match self {
+            Messages::Icmp => 1,
+            Messages::Icmpv6 => 58,
+        }
+    }
+}
+
 /// What an option says of a packet.
 #[derive(Clone, Copy)]
 pub enum Kind {
@@ -50,4 +69,6 @@ pub enum Kind {
     States,
     /// Nothing.
     Comment,
+    /// The type of a message of this protocol.
+    IcmpType(Messages),
 }

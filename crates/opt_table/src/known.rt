@@ -2,10 +2,10 @@ ghost use Rattle.std.specs.Prelude.{◌≡◌, AllPairs, map};
 ghost use Rattle.opt_table.specs.Options.{known_options};
 ghost use Rattle.opt_table.specs.Rows.{HasOtherTexts, spelling_of};
 
-use crate::{Kind, Row, Side, Table, Transport};
+use crate::{Kind, Messages, Row, Side, Table, Transport};
 
-/// The options that a reader knows: six that need no module, and fourteen of modules.
-pub fn options() -> Table<20>
+/// The options that a reader knows: six that need no module, and sixteen of modules.
+pub fn options() -> Table<22>
     ensures rows { map spelling_of result.rows.now ≡ known_options }
     // No two rows have both texts equal.
     ensures distinct { AllPairs HasOtherTexts result.rows.now }
@@ -13,7 +13,7 @@ pub fn options() -> Table<20>
     Table::new(&ROWS)
 }
 
-static ROWS: [Row; 20] = [
+static ROWS: [Row; 22] = [
     Row {
         module: b"",
         option: b"-s",
@@ -133,5 +133,17 @@ static ROWS: [Row; 20] = [
         option: b"--comment",
         arity: 1,
         kind: Kind::Comment,
+    },
+    Row {
+        module: b"icmp",
+        option: b"--icmp-type",
+        arity: 1,
+        kind: Kind::IcmpType(Messages::Icmp),
+    },
+    Row {
+        module: b"icmp6",
+        option: b"--icmpv6-type",
+        arity: 1,
+        kind: Kind::IcmpType(Messages::Icmpv6),
     },
 ];

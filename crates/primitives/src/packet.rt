@@ -24,7 +24,7 @@ fn is_valid<const W: u32>(p: &Packet, in_name: &[u8], out_name: &[u8]) -> bool
     requires output { out_name.now ≡ p.now.out_name }
     ensures { IsTrue result ↔ IsValid W p.now }
 {
-    let (_proto, _sport, _dport) = (p.proto, p.sport, p.dport);
+    let (_proto, _sport, _dport, _icmp) = (p.proto, p.sport, p.dport, p.icmp);
     if !fits::<W>(p.src) {
         return false;
     }

@@ -14,10 +14,10 @@ use Rattle.fw_rule.specs.declared.rule.Lit.{Lit}
 use Rattle.fw_rule.specs.Walk.{doubt_in}
 use Rattle.box_norm.specs.Pieces.{single}
 use Rattle.dump_print.specs.declared.flags.FlagCube.{FlagCube}
-use Rattle.dump_print.specs.declared.protocols.Protocols.{Protocols}
+use Rattle.dump_print.specs.declared.numbers.Numbers.{Numbers}
 use Rattle.dump_print.specs.FlagCover.{CoverFlags, match_count, matches}
 use Rattle.dump_print.specs.Flags.{all_below, beside, cubes_of, flag_cubes, same_truth}
-use Rattle.dump_print.specs.Protocols.{protocols_of}
+use Rattle.dump_print.specs.Numbers.{protocols_of}
 use Rattle.printed_filter.specs.Literals.{flags_literals, yes}
 use Rattle.printed_filter.proofs.Facts.{facts, one_fact}
 use Rattle.printed_filter.proofs.PortFacts.{nothing, own_part}
@@ -81,7 +81,7 @@ some_bit : (b : Bool) → nat_lt 0 (if b then 1 else 0) ≡ b
 some_bit true = refl
 some_bit false = refl
 
-tcp_form : protocols_of (single 6) ≡ Protocols.Only 6
+tcp_form : protocols_of (single 6) ≡ Numbers.Only 6
 tcp_form = refl
 
 tcp_alone : (x : ℕ) → has (single 6) x ≡ true → (x == 6) ≡ true
@@ -92,7 +92,7 @@ module _ (W : ℕ) (p : Packet) where
   told = facts (holds_of {W = W}) p
 
   -- what a line says of the flags
-  abbrev pub flags_fact : Protocols → FlagCube → Bool
+  abbrev pub flags_fact : Numbers → FlagCube → Bool
   flags_fact form cube = told (own_part form (flags_literals cube))
 
   module _ (tcp : (p.proto == 6) ≡ true) where
@@ -104,7 +104,7 @@ module _ (W : ℕ) (p : Packet) where
         sym ((λ i. bit_and p.flags (none i) == empty i) ∙ ap (λ k. k == 0) (and_zero_r p.flags))
     told_by cube false e f = one_fact (holds_of {W = W}) p (Prim_.Flags cube.mask cube.comp) ∙ ap (λ b. b && matches p.flags cube) tcp
 
-    told_each : (cubes : List FlagCube) → AllByRecursion Fits cubes → list_any (flags_fact (Protocols.Only 6)) cubes ≡ list_any (matches p.flags) cubes
+    told_each : (cubes : List FlagCube) → AllByRecursion Fits cubes → list_any (flags_fact (Numbers.Only 6)) cubes ≡ list_any (matches p.flags) cubes
     told_each [] h = refl
     told_each (cube ∷ cubes) h = λ i. told_by cube (cube.mask == 0) refl h.0 i || told_each cubes h.1 i
 

@@ -6,10 +6,11 @@ pub mod FlagFacts
 pub mod Lines
 pub mod LineKnown
 pub mod NameFacts
+pub mod NumberFacts
 pub mod PortFacts
-pub mod ProtocolFacts
 pub mod RuleWalk
 pub mod StateFacts
 pub mod Truths
+pub mod TypeFacts
 pub mod WalkOver
 pub mod Whole

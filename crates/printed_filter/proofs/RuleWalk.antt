@@ -22,36 +22,55 @@ use Rattle.box_norm.specs.Cubes.{holds_cube}
 use Rattle.box_norm.specs.Normal.{first_of}
 use Rattle.box_norm.specs.Regular.{EachCube, IsRegular}
 use Rattle.dump_print.specs.CubeLines.{choices_of}
+use Rattle.dump_print.specs.declared.numbers.Numbers.{Numbers}
 use Rattle.dump_print.specs.FlagCover.{CoverFlags}
-use Rattle.dump_print.specs.Helpers.{helped_from, helper_name, needs_helper, returned_patterns, returned_protocols}
+use Rattle.dump_print.specs.Helpers.{helped_from, helper_name, needs_helper, returned_patterns, returned_protocols, returned_types}
 use Rattle.dump_print.specs.Names.{is_plain_names}
 use Rattle.dump_print.specs.Parts.{Choice}
 use Rattle.dump_print.specs.PortCover.{CoverPorts}
-use Rattle.dump_print.specs.Protocols.{is_plain_protocols, lacking, protocols_of}
+use Rattle.dump_print.specs.Numbers.{are_plain_numbers, lacking, protocols_of, types_of}
 use Rattle.box_norm.specs.Sets.{HasSets}
 use Rattle.printed_filter.specs.Laws.{verdict_of}
-use Rattle.printed_filter.specs.Literals.{line_literals}
-use Rattle.printed_filter.specs.PrintedDump.{Said, asked_rules, back_where, helper_chains_from, helper_rules, helpers_of, placed_from, returns_of, verdict_action}
+use Rattle.printed_filter.specs.Literals.{line_literals, protocol_literals, type_literals}
+use Rattle.printed_filter.specs.PrintedDump.{Said, asked_rules, back_if, helper_chains_from, helper_rules, helpers_of, placed_from, returns_of, type_back, verdict_action}
 use Rattle.printed_filter.proofs.CubeFacts.{cube_meets, returned}
-use Rattle.printed_filter.proofs.Facts.{facts, one_fact}
+use Rattle.printed_filter.proofs.Facts.{facts, known-append, one_fact}
 use Rattle.printed_filter.proofs.LineKnown.{line_known}
+use Rattle.printed_filter.proofs.NumberFacts.{numbers_known}
 use Rattle.basics.proofs.Lists.{each_append}
 use Rattle.printed_filter.proofs.Truths.{and_true, any_map, any_same}
+use Rattle.printed_filter.proofs.TypeFacts.{returns_type, types_known}
 use Rattle.printed_filter.proofs.WalkOver.{Does, Goes, Leads, RestAt, hits, one_step, over_alike, over_passing, rest_first, rest_next, some_hit}
 
 module _ (W : ℕ) where
-  module _ {X : Type 0} (prim : X → Prim_ W) where
-    all_back : (xs : List X) → AllByRecursion (Does Action.Back) (map (λ x. back_where (prim x)) xs)
+  module _ {X : Type 0} (back : X → Said W) (each : (x : X) → Does Action.Back (back x)) where
+    all_back : (xs : List X) → AllByRecursion (Does Action.Back) (map back xs)
     all_back [] = tt
-    all_back (x ∷ xs) = (record { does = refl; known = refl }, all_back xs)
+    all_back (x ∷ xs) = (each x, all_back xs)
+
+  goes_back : (x : Prim_ W) → Does Action.Back (back_if x)
+  goes_back x = record { does = refl; known = refl }
+
+  type_goes_back : (form : Numbers) (n : ℕ) → Does {W = W} Action.Back (type_back form n)
+  type_goes_back form n = record {
+    does = refl;
+    known = known-append (protocol_literals form) (type_literals form (Numbers.Only n)) (numbers_known Prim_.Proto form) (types_known W form (Numbers.Only n));
+  }
+
+  -- the returns by protocols and by types of messages
+  abbrev pub number_returns : Cube W → List (Said W)
+  number_returns cube = map (λ n. back_if (Prim_.Proto n)) (returned_protocols cube.proto) ++ map (λ n. type_back (protocols_of cube.proto) n) (returned_types cube.icmp)
 
   pub returns_back : (cube : Cube W) → AllByRecursion (Does Action.Back) (returns_of cube)
   returns_back cube =
-      each_append (Does Action.Back) (map (λ pattern. back_where (Prim_.InName pattern)) (returned_patterns cube.in_name)) _
-      (all_back Prim_.InName (returned_patterns cube.in_name))
-      (each_append (Does Action.Back) (map (λ pattern. back_where (Prim_.OutName pattern)) (returned_patterns cube.out_name))
-      (map (λ n. back_where (Prim_.Proto n)) (returned_protocols cube.proto))
-      (all_back Prim_.OutName (returned_patterns cube.out_name)) (all_back Prim_.Proto (returned_protocols cube.proto)))
+      each_append (Does Action.Back) (map (λ pattern. back_if (Prim_.InName pattern)) (returned_patterns cube.in_name)) _
+      (all_back (λ pattern. back_if (Prim_.InName pattern)) (λ pattern. goes_back (Prim_.InName pattern)) (returned_patterns cube.in_name))
+      (each_append (Does Action.Back) (map (λ pattern. back_if (Prim_.OutName pattern)) (returned_patterns cube.out_name)) (number_returns cube)
+      (all_back (λ pattern. back_if (Prim_.OutName pattern)) (λ pattern. goes_back (Prim_.OutName pattern)) (returned_patterns cube.out_name))
+      (each_append (Does Action.Back) (map (λ n. back_if (Prim_.Proto n)) (returned_protocols cube.proto))
+      (map (λ n. type_back (protocols_of cube.proto) n) (returned_types cube.icmp))
+      (all_back (λ n. back_if (Prim_.Proto n)) (λ n. goes_back (Prim_.Proto n)) (returned_protocols cube.proto))
+      (all_back (λ n. type_back (protocols_of cube.proto) n) (λ n. type_goes_back (protocols_of cube.proto) n) (returned_types cube.icmp))))
 
   -- the lines of a cube, with this action
   abbrev said_lines : Cube W → Action → List Choice → List (Said W)
@@ -69,19 +88,26 @@ module _ {W : ℕ} (dump : Dump (Prim_ W)) (p : Packet) (m : Meaning) (policy : 
   any_hit = some_hit dump p m (Some policy)
 
   back_hits : {X : Type 0} (prim : X → Prim_ W) (test : X → Bool) → ((x : X) → holds_of (prim x) p ≡ test x) → (xs : List X) →
-      any_hit (map (λ x. back_where (prim x)) xs) ≡ list_any test xs
+      any_hit (map (λ x. back_if (prim x)) xs) ≡ list_any test xs
   back_hits prim test says xs =
-      any_map hit (λ x. back_where (prim x)) xs
-      ∙ any_same (λ x. hit (back_where (prim x))) test xs (λ x. one_fact (holds_of {W = W}) p (prim x) ∙ says x)
+      any_map hit (λ x. back_if (prim x)) xs
+      ∙ any_same (λ x. hit (back_if (prim x))) test xs (λ x. one_fact (holds_of {W = W}) p (prim x) ∙ says x)
+
+  numbers_hit : (cube : Cube W) → any_hit (number_returns W cube)
+      ≡ (list_any (λ n. p.proto == n) (returned_protocols cube.proto) || list_any (returns_type W p (protocols_of cube.proto)) (returned_types cube.icmp))
+  numbers_hit cube =
+      list_any-append hit (map (λ n. back_if (Prim_.Proto n)) (returned_protocols cube.proto)) (map (λ n. type_back (protocols_of cube.proto) n) (returned_types cube.icmp))
+      ∙ (λ i. back_hits Prim_.Proto (λ n. p.proto == n) (λ x. refl) (returned_protocols cube.proto) i
+      || any_map hit (λ n. type_back (protocols_of cube.proto) n) (returned_types cube.icmp) i)
 
   -- whether a return takes the packet
   pub returns_hit : (cube : Cube W) → any_hit (returns_of cube) ≡ returned W p cube
   returns_hit cube =
-      list_any-append hit (map (λ pattern. back_where (Prim_.InName pattern)) (returned_patterns cube.in_name)) _
+      list_any-append hit (map (λ pattern. back_if (Prim_.InName pattern)) (returned_patterns cube.in_name)) _
       ∙ (λ i. back_hits Prim_.InName (λ q. fits q p.in_name) (λ x. refl) (returned_patterns cube.in_name) i
-      || (list_any-append hit (map (λ pattern. back_where (Prim_.OutName pattern)) (returned_patterns cube.out_name)) (map (λ n. back_where (Prim_.Proto n)) (returned_protocols cube.proto))
+      || (list_any-append hit (map (λ pattern. back_if (Prim_.OutName pattern)) (returned_patterns cube.out_name)) (number_returns W cube)
       ∙ (λ j. back_hits Prim_.OutName (λ q. fits q p.out_name) (λ x. refl) (returned_patterns cube.out_name) j
-      || back_hits Prim_.Proto (λ n. p.proto == n) (λ x. refl) (returned_protocols cube.proto) j)) i)
+      || numbers_hit cube j)) i)
 
   lines_hit : (cube : Cube W) (action : Action) (lines : List Choice) →
       any_hit (said_lines W cube action lines) ≡ list_any (λ line. facts (holds_of {W = W}) p (line_literals cube line)) lines
@@ -123,14 +149,20 @@ module _ {W : ℕ} (dump : Dump (Prim_ W)) (p : Packet) (m : Meaning) (policy : 
   abbrev pub passes : Cube W → Bool
   passes cube = list_any (λ line. facts (holds_of {W = W}) p (line_literals cube line)) (choices_of cube)
 
+  -- whether one line can say the protocols and the types of messages
+  abbrev are_plain : Cube W → Bool
+  are_plain cube = are_plain_numbers (protocols_of cube.proto) && are_plain_numbers (types_of cube.icmp)
+
   no_returns : (cube : Cube W) → needs_helper cube ≡ false → returned W p cube ≡ false
   no_returns cube e =
-      let all = not-false (is_plain_names cube.in_name && (is_plain_names cube.out_name && is_plain_protocols (protocols_of cube.proto))) e in
-      let first = and_parts (is_plain_names cube.in_name) (is_plain_names cube.out_name && is_plain_protocols (protocols_of cube.proto)) all in
-      let rest = and_parts (is_plain_names cube.out_name) (is_plain_protocols (protocols_of cube.proto)) first.1 in
+      let all = not-false (is_plain_names cube.in_name && (is_plain_names cube.out_name && are_plain cube)) e in
+      let first = and_parts (is_plain_names cube.in_name) (is_plain_names cube.out_name && are_plain cube) all in
+      let rest = and_parts (is_plain_names cube.out_name) (are_plain cube) first.1 in
+      let numbers = and_parts (are_plain_numbers (protocols_of cube.proto)) (are_plain_numbers (types_of cube.icmp)) rest.1 in
       (λ i. some_fits (if first.0 i then [] else cube.in_name.excluded) p.in_name
       || (some_fits (if rest.0 i then [] else cube.out_name.excluded) p.out_name
-      || list_any (λ n. p.proto == n) (if rest.1 i then [] else lacking cube.proto)))
+      || (list_any (λ n. p.proto == n) (if numbers.0 i then [] else lacking cube.proto)
+      || list_any (returns_type W p (protocols_of cube.proto)) (if numbers.1 i then [] else lacking cube.icmp))))
 
   module _ (here : Chain (Prim_ W)) (at_0 : slice_get dump.chains 0 ≡ Some here) (more : List (Said W)) (n k : ℕ) (rule : SimpleRule W) where
     -- from the rules after these on the walk comes to the state

@@ -10,17 +10,12 @@ use Rattle.fw_rule.specs.declared.rule.Lit.{Lit}
 use Rattle.box_norm.specs.declared.cube.Cube.{Cube}
 use Rattle.opt_table.specs.Options.{destination_ports, source_ports}
 use Rattle.dump_print.specs.declared.flags.FlagCube.{FlagCube}
-use Rattle.dump_print.specs.declared.protocols.Protocols.{Protocols}
+use Rattle.dump_print.specs.declared.numbers.Numbers.{Numbers}
 use Rattle.dump_print.specs.Addresses.{is_everything, prefix_length}
 use Rattle.dump_print.specs.Names.{is_every_name, is_plain_names}
 use Rattle.dump_print.specs.Parts.{Choice}
 use Rattle.dump_print.specs.Ports.{Ports}
-use Rattle.dump_print.specs.Protocols.{protocols_of}
-
--- the number of the one protocol
-abbrev pub number_of : Protocols → ℕ
-number_of (Protocols.Only n) = n
-number_of _ = 0
+use Rattle.dump_print.specs.Numbers.{number_of, protocols_of, types_of}
 
 module _ {W : ℕ} where
   -- the test holds
@@ -53,11 +48,25 @@ module _ {W : ℕ} where
       (if is_every_name names.base then [] else yes (prim names.base) ∷ [])
       ++ (if is_plain_names names then map (λ pattern. no (prim pattern)) names.excluded else [])
 
-  abbrev pub protocol_literals : Protocols → List (Lit (Prim_ W))
-  protocol_literals Protocols.Every = []
-  protocol_literals (Protocols.Only n) = yes (Prim_.Proto n) ∷ []
-  protocol_literals (Protocols.AllBut n) = no (Prim_.Proto n) ∷ []
-  protocol_literals Protocols.Others = []
+  -- numbers as one line says them
+  abbrev pub number_literals : (ℕ → Prim_ W) → Numbers → List (Lit (Prim_ W))
+  number_literals prim Numbers.Every = []
+  number_literals prim (Numbers.Only n) = yes (prim n) ∷ []
+  number_literals prim (Numbers.AllBut n) = no (prim n) ∷ []
+  number_literals prim Numbers.Others = []
+
+  abbrev pub protocol_literals : Numbers → List (Lit (Prim_ W))
+  protocol_literals protocols = number_literals Prim_.Proto protocols
+
+  -- a message of this protocol, of this type
+  abbrev pub message : ℕ → ℕ → Prim_ W
+  message n kind = Prim_.IcmpKind (record { proto = n; kind = kind })
+
+  -- the types of messages, where the protocols are one whose messages have types
+  abbrev pub type_literals : Numbers → Numbers → List (Lit (Prim_ W))
+  type_literals (Numbers.Only n) types =
+      if n == 1 then number_literals (message n) types else if n == 58 then number_literals (message n) types else []
+  type_literals _ types = []
 
   -- a port, as an option of tcp or udp says it
   abbrev pub single_literals : (List Range → Expr (Prim_ W)) → Ports → List (Lit (Prim_ W))
@@ -83,8 +92,8 @@ module _ {W : ℕ} where
       ++ (single_literals (destination_ports n) line.dports ++ flags_literals line.flags)
 
   -- the same, where the protocols are one that has a module of its own
-  abbrev pub own_module_literals : Protocols → Choice → List (Lit (Prim_ W))
-  own_module_literals (Protocols.Only n) line = if n == 6 then own_literals n line else if n == 17 then own_literals n line else []
+  abbrev pub own_module_literals : Numbers → Choice → List (Lit (Prim_ W))
+  own_module_literals (Numbers.Only n) line = if n == 6 then own_literals n line else if n == 17 then own_literals n line else []
   own_module_literals _ line = []
 
   -- what the options say that need no module
@@ -99,8 +108,9 @@ module _ {W : ℕ} where
   module_literals cube line =
       range_literals Prim_.Src line.source ++ (range_literals Prim_.Dst line.destination
       ++ (own_module_literals (protocols_of cube.proto) line
+      ++ (type_literals (protocols_of cube.proto) (types_of cube.icmp)
       ++ (listed_literals (source_ports (number_of (protocols_of cube.proto))) line.sports
-      ++ (listed_literals (destination_ports (number_of (protocols_of cube.proto))) line.dports ++ state_literals cube.state))))
+      ++ (listed_literals (destination_ports (number_of (protocols_of cube.proto))) line.dports ++ state_literals cube.state)))))
 
   -- what a line of a cube says
   abbrev pub line_literals : Cube W → Choice → List (Lit (Prim_ W))

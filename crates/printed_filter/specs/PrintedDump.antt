@@ -12,8 +12,10 @@ use Rattle.box_norm.specs.declared.cube.Cube.{Cube}
 use Rattle.box_norm.specs.declared.cube.SimpleRule.{SimpleRule}
 use Rattle.dump_grammar.specs.Lines.{Text}
 use Rattle.dump_print.specs.CubeLines.{choices_of}
-use Rattle.dump_print.specs.Helpers.{HelpedRule, helped_from, helper_name, returned_patterns, returned_protocols}
-use Rattle.printed_filter.specs.Literals.{line_literals, yes}
+use Rattle.dump_print.specs.Helpers.{HelpedRule, helped_from, helper_name, returned_patterns, returned_protocols, returned_types}
+use Rattle.dump_print.specs.Numbers.{protocols_of}
+use Rattle.dump_print.specs.declared.numbers.Numbers.{Numbers}
+use Rattle.printed_filter.specs.Literals.{line_literals, protocol_literals, type_literals, yes}
 
 -- a rule without the number of its line
 pub record Said (W : ℕ) : Type 0 where
@@ -34,15 +36,24 @@ action_to accept None = verdict_action accept
 action_to accept (Some n) = Action.Call n
 
 module _ {W : ℕ} where
-  abbrev pub back_where : Prim_ W → Said W
-  back_where x = record { literals = yes x ∷ []; action = Action.Back }
+  abbrev pub back_where : List (Lit (Prim_ W)) → Said W
+  back_where literals = record { literals = literals; action = Action.Back }
+
+  -- where the test holds
+  abbrev pub back_if : Prim_ W → Said W
+  back_if x = back_where (yes x ∷ [])
+
+  -- where a message is of this type, if the protocols are one whose messages have types
+  abbrev pub type_back : Numbers → ℕ → Said W
+  type_back protocols n = back_where (protocol_literals protocols ++ type_literals protocols (Numbers.Only n))
 
   -- the rules by which what the cube excludes goes back to the asked chain
   abbrev pub returns_of : Cube W → List (Said W)
   returns_of cube =
-      map (λ pattern. back_where (Prim_.InName pattern)) (returned_patterns cube.in_name)
-      ++ (map (λ pattern. back_where (Prim_.OutName pattern)) (returned_patterns cube.out_name)
-      ++ map (λ n. back_where (Prim_.Proto n)) (returned_protocols cube.proto))
+      map (λ pattern. back_if (Prim_.InName pattern)) (returned_patterns cube.in_name)
+      ++ (map (λ pattern. back_if (Prim_.OutName pattern)) (returned_patterns cube.out_name)
+      ++ (map (λ n. back_if (Prim_.Proto n)) (returned_protocols cube.proto)
+      ++ map (λ n. type_back (protocols_of cube.proto) n) (returned_types cube.icmp)))
 
   -- the rules of a helper chain
   abbrev pub helper_rules : SimpleRule W → List (Said W)

@@ -139,7 +139,7 @@ module _ {W : ℕ} (Reads : Text → ℕ → Type 0) (Knows : List Group → Typ
       → SaysRange option prim → CanStand (bare option) → IsRange W r → (o : Option ℕ)
       → IsInner Reads Knows (codes "iprange") (range_words_of text_of W option r o) (other_literal prim r o)
   range_part_of option prim r arity name says named is None =
-      option_part Reads Knows (codes "iprange") option (bare (range_text r) ∷ []) (Prim (prim (r ∷ []))) arity name
+      option_part Reads Knows false (codes "iprange") option (bare (range_text r) ∷ []) (Prim (prim (r ∷ []))) arity name
       (λ all knows. says all (range_text r) r (range_is r is)) named (range_written r is, tt)
   range_part_of option prim r arity name says named is (Some len) = no_inner Reads Knows (codes "iprange")
 

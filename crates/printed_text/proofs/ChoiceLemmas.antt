@@ -1,5 +1,5 @@
 -- What each line of a cube can say.
-use Rattle.std.proofs.Common.{◌≡◌, ◌∙◌, ◌++◌, ◌∷◌, ◌+◌, ◌-◌, ◌*◌, ◌^◌, ◌<◌, ◌≤◌, ◌==◌, ◌⊎◌, [], ℕ, zero, suc, List, Bool, true, false, inl, inr, nat_le, refl, sym, ap, subst, arith, decimal, map, if◌then◌else◌, Contains, lit<, lit≤}
+use Rattle.std.proofs.Common.{◌≡◌, ◌≢◌, ◌∙◌, ◌++◌, ◌∷◌, ◌+◌, ◌-◌, ◌*◌, ◌^◌, ◌<◌, ◌==◌, ◌⊎◌, [], ℕ, zero, suc, List, Bool, true, false, inl, inr, nat_le, refl, sym, ap, subst, arith, decimal, map, if◌then◌else◌, Contains, lit<}
 use Rattle.std.specs.List.{AllByRecursion}
 use Rattle.std.proofs.lemmas.List.Elements.{All-contains, All-from_recursion}
 use Rattle.std.proofs.lemmas.Bool.{eqb-true}
@@ -12,7 +12,7 @@ use Rattle.box_norm.specs.Pieces.{single}
 use Rattle.box_norm.specs.Regular.{HasPortsAlone, IsRegular, full}
 use Rattle.dump_grammar.specs.Arguments.{IsPortList, IsPortRange}
 use Rattle.dump_print.specs.declared.flags.FlagCube.{FlagCube}
-use Rattle.dump_print.specs.declared.protocols.Protocols.{Protocols}
+use Rattle.dump_print.specs.declared.numbers.Numbers.{Numbers}
 use Rattle.primitives.specs.Ranges.{IsRange}
 use Rattle.dump_print.specs.Addresses.{is_everything}
 use Rattle.dump_print.specs.CubeLines.{axes_of, choices_of}
@@ -20,17 +20,17 @@ use Rattle.dump_print.specs.Flags.{all_below, beside, cubes_of, flag_cubes, same
 use Rattle.dump_print.specs.Parts.{Axes, Choice, between, choices_in, with_destinations, with_dports, with_flags, with_sports}
 use Rattle.dump_print.specs.PortCover.{CoverPorts}
 use Rattle.dump_print.specs.Ports.{Ports, chunks, has_port_module, port_choices, port_list, weight_of}
-use Rattle.dump_print.specs.Protocols.{protocols_of}
+use Rattle.dump_print.specs.Numbers.{protocols_of}
 use Rattle.box_norm.specs.Sets.{HasSets}
 use Rattle.primitives.proofs.RangeLemmas.{ranges_of}
-use Rattle.printed_text.proofs.ProtocolParts.{single_only}
+use Rattle.printed_text.proofs.NumberSets.{single_only}
 use Rattle.printed_text.proofs.PortParts.{HasOnePorts, IsFlagCube, IsReadable}
 use Rattle.basics.proofs.Lists.{each_append}
 use Rattle.printed_text.proofs.ListLemmas.{flat_since, map_since}
 
 -- ---- the choices
 -- each part of what the line says can be said
-pub record IsSayable (W : ℕ) (protocols : Protocols) (line : Choice) : Type 0 where
+pub record IsSayable (W : ℕ) (protocols : Numbers) (line : Choice) : Type 0 where
   pub source : IsRange W line.source
   pub destination : IsRange W line.destination
   pub sports : IsReadable protocols line.sports
@@ -38,14 +38,14 @@ pub record IsSayable (W : ℕ) (protocols : Protocols) (line : Choice) : Type 0 
   pub flags : IsFlagCube protocols line.flags
 
 -- so can each part of what the lines say
-record AreSayable (W : ℕ) (protocols : Protocols) (axes : Axes) : Type 0 where
+record AreSayable (W : ℕ) (protocols : Numbers) (axes : Axes) : Type 0 where
   sources : AllByRecursion (IsRange W) axes.sources
   destinations : AllByRecursion (IsRange W) axes.destinations
   sports : AllByRecursion (IsReadable protocols) axes.sports
   dports : AllByRecursion (IsReadable protocols) axes.dports
   flags : AllByRecursion (IsFlagCube protocols) axes.flags
 
-module _ (W : ℕ) (protocols : Protocols) (axes : Axes) (are : AreSayable W protocols axes) where
+module _ (W : ℕ) (protocols : Numbers) (axes : Axes) (are : AreSayable W protocols axes) where
   flags_sayable : (line : Choice) → IsRange W line.source → IsRange W line.destination → IsReadable protocols line.sports → IsReadable protocols line.dports
       → AllByRecursion (IsSayable W protocols) (with_flags line axes.flags)
   flags_sayable line source destination sports dports =
@@ -80,7 +80,7 @@ one_chunk : (P : List Range → Type 0) (r : Range) (b : Bool) → AllByRecursio
 one_chunk P r true p = p.0
 one_chunk P r false p = p.1.0
 
-module _ (protocols : Protocols) (has : HasOnePorts protocols) where
+module _ (protocols : Numbers) (has : HasOnePorts protocols) where
   list_readable : (lists : List (List Range)) → AllByRecursion (λ chunk. IsPortList (port_list chunk) chunk) lists → AllByRecursion (IsReadable protocols) (map Ports.Listed lists)
   list_readable lists are = map_since (λ chunk. IsPortList (port_list chunk) chunk) (IsReadable protocols) Ports.Listed (λ chunk is. (is, has)) lists are
 
@@ -96,7 +96,7 @@ module _ (protocols : Protocols) (has : HasOnePorts protocols) where
   some_readable (r ∷ []) is cover = let ends = is.1 in one_readable r (ends.1, ends.2) cover (is_everything 16 r) (has_port_module protocols)
   some_readable (r ∷ s ∷ rs) is cover = list_readable (chunks (r ∷ s ∷ rs)) cover.read
 
-ports_some : (n : ℕ) → HasPorts n → 1 ≤ n
+ports_some : (n : ℕ) → HasPorts n → n ≢ 0
 ports_some n (inl e) = omega (arith, e)
 ports_some n (inr (inl e)) = omega (arith, e)
 ports_some n (inr (inr (inl e))) = omega (arith, e)
@@ -104,7 +104,7 @@ ports_some n (inr (inr (inr (inl e)))) = omega (arith, e)
 ports_some n (inr (inr (inr (inr e)))) = omega (arith, e)
 
 ports_alone : (protos : List Range) → HasPortsAlone protos → HasOnePorts (protocols_of protos)
-ports_alone protos (n, has, e) = subst HasOnePorts (sym (ap protocols_of e ∙ single_only n (ports_some n has))) has
+ports_alone protos (n, has, e) = subst HasOnePorts (sym (ap protocols_of e ∙ single_only 0 n (ports_some n has))) has
 
 ports_readable : (protos rs : List Range) → IsSet 16 rs → CoverPorts rs → (rs ≡ full 16) ⊎ HasPortsAlone protos
     → AllByRecursion (IsReadable (protocols_of protos)) (port_choices (protocols_of protos) rs)
@@ -138,7 +138,7 @@ cubes_within (suc count) has =
     cubes_step count (all_below (2 ^ count) (λ n. same_truth (has (2 * n)) (has (2 * n + 1)))) (flag_cubes count (λ n. has (2 * n))) (flag_cubes count (λ n. has (2 * n + 1)))
     (cubes_within count (λ n. has (2 * n))) (cubes_within count (λ n. has (2 * n + 1)))
 
-flags_of_tcp : (cubes : List FlagCube) → AllByRecursion (IsWithin 6) cubes → AllByRecursion (IsFlagCube (Protocols.Only 6)) cubes
+flags_of_tcp : (cubes : List FlagCube) → AllByRecursion (IsWithin 6) cubes → AllByRecursion (IsFlagCube (Numbers.Only 6)) cubes
 flags_of_tcp [] are = tt
 flags_of_tcp (cube ∷ cubes) are = ((are.0.0, are.0.1, inr refl), flags_of_tcp cubes are.1)
 
@@ -150,7 +150,7 @@ flags_sayable_of : (protos : List Range) (flags : ℕ) → (flags ≡ 2 ^ 64 - 1
 flags_sayable_of protos flags (inl e) =
     subst (λ (cubes : List FlagCube). AllByRecursion (IsFlagCube (protocols_of protos)) cubes) (sym (ap cubes_of e ∙ every_flag)) ((lit< tt, lit< tt, inl refl), tt)
 flags_sayable_of protos flags (inr e) =
-    subst (λ (protocols : Protocols). AllByRecursion (IsFlagCube protocols) (cubes_of flags)) (sym (ap protocols_of e ∙ single_only 6 (lit≤ tt)))
+    subst (λ (protocols : Numbers). AllByRecursion (IsFlagCube protocols) (cubes_of flags)) (sym (ap protocols_of e ∙ single_only 0 6 (omega arith)))
     (flags_of_tcp (cubes_of flags) (cubes_within 6 (has_bit flags)))
 
 -- ---- the lines of a cube

@@ -4,19 +4,21 @@ use Rattle.std.specs.List.{flat_map}
 use Rattle.std.proofs.lemmas.List.{length-map, map-append}
 use Rattle.primitives.specs.declared.prim.Prim_.{Prim_}
 use Rattle.fw_rule.specs.declared.rule.Chain.{Chain}
+use Rattle.fw_rule.specs.declared.rule.Lit.{Lit}
 use Rattle.fw_rule.specs.declared.rule.Rule.{Rule}
 use Rattle.fw_rule.specs.declared.rule.Verdict.{Verdict}
 use Rattle.box_norm.specs.declared.cube.Cube.{Cube}
 use Rattle.box_norm.specs.declared.cube.SimpleRule.{SimpleRule}
 use Rattle.dump_grammar.specs.Lines.{Text, Word, bare}
 use Rattle.dump_print.specs.CubeLines.{choices_of, part_words}
-use Rattle.dump_print.specs.Helpers.{HelpedRule, helper_lines, helper_name, return_line, returned_patterns, returned_protocols, verdict_text}
+use Rattle.dump_print.specs.declared.numbers.Numbers.{Numbers}
+use Rattle.dump_print.specs.Helpers.{HelpedRule, helper_lines, helper_name, return_where, returned_patterns, returned_protocols, returned_types, verdict_text}
 use Rattle.dump_print.specs.Names.{name_word}
-use Rattle.dump_print.specs.Parts.{Choice, rule_words}
+use Rattle.dump_print.specs.Parts.{Choice, option_words, protocol_words, rule_words, type_words}
 use Rattle.dump_print.specs.Printed.{declared_helper, lines_of_helper, lines_of_rule, target_text}
-use Rattle.dump_print.specs.Protocols.{protocol_text}
+use Rattle.dump_print.specs.Numbers.{protocol_text, protocols_of}
 use Rattle.name_set.specs.declared.pattern.Pattern.{Pattern}
-use Rattle.printed_filter.specs.Literals.{line_literals}
+use Rattle.printed_filter.specs.Literals.{line_literals, protocol_literals, type_literals, yes}
 use Rattle.printed_filter.specs.PrintedDump.{Helper, Said, action_to, asked_rules, back_where, helper_chains_from, helper_of, helper_rules, helpers_of, placed_from, verdict_action}
 use Rattle.printed_text.proofs.Blocks.{Block, RuleText, all_words, chain_line, chains_from, said_of, words_of}
 use Rattle.basics.proofs.Lists.{map_map}
@@ -24,22 +26,28 @@ use Rattle.printed_text.proofs.ListLemmas.{flat_same, map_flat}
 
 module _ {W : ℕ} where
   -- ---- the lines of a helper chain
-  abbrev pub return_text : Text → Text → Word → Prim_ W → RuleText W
-  return_text chain option argument x = record { words = return_line chain option argument; said = back_where x }
+  abbrev pub return_text : Text → List Word → List (Lit (Prim_ W)) → RuleText W
+  return_text chain parts literals = record { words = return_where chain parts; said = back_where literals }
 
   abbrev pub in_text : Text → Pattern → RuleText W
-  in_text chain pattern = return_text chain (codes "-i") (name_word pattern) (Prim_.InName pattern)
+  in_text chain pattern = return_text chain (option_words (codes "-i") (name_word pattern)) (yes (Prim_.InName pattern) ∷ [])
 
   abbrev pub out_text : Text → Pattern → RuleText W
-  out_text chain pattern = return_text chain (codes "-o") (name_word pattern) (Prim_.OutName pattern)
+  out_text chain pattern = return_text chain (option_words (codes "-o") (name_word pattern)) (yes (Prim_.OutName pattern) ∷ [])
 
   abbrev pub protocol_line : Text → ℕ → RuleText W
-  protocol_line chain n = return_text chain (codes "-p") (bare (protocol_text n)) (Prim_.Proto n)
+  protocol_line chain n = return_text chain (option_words (codes "-p") (bare (protocol_text n))) (yes (Prim_.Proto n) ∷ [])
+
+  abbrev pub type_line : Text → Numbers → ℕ → RuleText W
+  type_line chain protocols n =
+      return_text chain (protocol_words protocols ++ type_words protocols (Numbers.Only n)) (protocol_literals protocols ++ type_literals protocols (Numbers.Only n))
 
   abbrev pub return_texts : Text → Cube W → List (RuleText W)
   return_texts chain cube =
       map (in_text chain) (returned_patterns cube.in_name)
-      ++ (map (out_text chain) (returned_patterns cube.out_name) ++ map (protocol_line chain) (returned_protocols cube.proto))
+      ++ (map (out_text chain) (returned_patterns cube.out_name)
+      ++ (map (protocol_line chain) (returned_protocols cube.proto)
+      ++ map (type_line chain (protocols_of cube.proto)) (returned_types cube.icmp)))
 
   abbrev pub verdict_line : Text → Bool → RuleText W
   verdict_line chain accept = record {
@@ -54,20 +62,24 @@ module _ {W : ℕ} where
   lines_seen : {X : Type 0} (see : RuleText W → X) (chain : Text) (rule : SimpleRule W) → map see (helper_texts chain rule)
       ≡ (map (λ pattern. see (in_text chain pattern)) (returned_patterns rule.cube.in_name)
       ++ (map (λ pattern. see (out_text chain pattern)) (returned_patterns rule.cube.out_name)
-      ++ map (λ n. see (protocol_line chain n)) (returned_protocols rule.cube.proto)))
+      ++ (map (λ n. see (protocol_line chain n)) (returned_protocols rule.cube.proto)
+      ++ map (λ n. see (type_line chain (protocols_of rule.cube.proto) n)) (returned_types rule.cube.icmp))))
       ++ see (verdict_line chain rule.accept) ∷ []
   lines_seen {X} see chain rule =
       let a = map (in_text chain) (returned_patterns rule.cube.in_name) in
       let b = map (out_text chain) (returned_patterns rule.cube.out_name) in
       let c = map (protocol_line chain) (returned_protocols rule.cube.proto) in
+      let d = map (type_line chain (protocols_of rule.cube.proto)) (returned_types rule.cube.icmp) in
       let last = verdict_line chain rule.accept ∷ [] in
-      map-append see (a ++ (b ++ c)) last
+      map-append see (a ++ (b ++ (c ++ d))) last
       ∙ ap (λ (xs : List X). xs ++ map see last)
-      (map-append see a (b ++ c)
+      (map-append see a (b ++ (c ++ d))
       ∙ ap₂ (λ (xs ys : List X). xs ++ ys) (map_map see (in_text chain) (returned_patterns rule.cube.in_name))
-      (map-append see b c
+      (map-append see b (c ++ d)
       ∙ ap₂ (λ (xs ys : List X). xs ++ ys) (map_map see (out_text chain) (returned_patterns rule.cube.out_name))
-      (map_map see (protocol_line chain) (returned_protocols rule.cube.proto))))
+      (map-append see c d
+      ∙ ap₂ (λ (xs ys : List X). xs ++ ys) (map_map see (protocol_line chain) (returned_protocols rule.cube.proto))
+      (map_map see (type_line chain (protocols_of rule.cube.proto)) (returned_types rule.cube.icmp)))))
 
   helper_words : (chain : Text) (rule : SimpleRule W) → words_of (helper_texts chain rule) ≡ helper_lines chain rule
   helper_words chain rule = lines_seen (λ (line : RuleText W). line.words) chain rule

@@ -7,6 +7,7 @@ pub mod HelperNumbers
 pub mod ListLemmas
 pub mod NameParts
 pub mod NumberLemmas
+pub mod NumberSets
 pub mod PartLemmas
 pub mod PortParts
 pub mod PrintedRules
@@ -15,5 +16,6 @@ pub mod ReturnLemmas
 pub mod RuleLines
 pub mod TableLemmas
 pub mod TextLines
+pub mod TypeParts
 pub mod WordLemmas
 pub mod WordListLemmas

@@ -1,14 +1,22 @@
--- The numbers that a set lacks.
-use Rattle.std.proofs.Common.{◌≡◌, ◌∙◌, ◌^◌, ◌≤◌, ◌&&◌, ℕ, zero, suc, List, Bool, true, false, not, nat_lt, sym, arith}
+-- The numbers that a line can say, and those that a set lacks.
+use Rattle.std.proofs.Common.{◌≡◌, ◌≢◌, ◌∙◌, ◌^◌, ◌≤◌, ◌&&◌, ℕ, List, Bool, true, false, not, nat_lt, sym, ap, arith}
 use Rattle.std.proofs.lemmas.Bool.Decides.{nat_tests}
 use Rattle.interval_set.specs.declared.set.Range.{Range}
 use Rattle.interval_set.specs.Numbers.{has}
 use Rattle.interval_set.specs.Spelling.{set_not}
 use Rattle.interval_set.proofs.Spelling.{not_has}
 
--- a protocol's number that isn't 0
-abbrev pub IsNumber : ℕ → Type 0
-IsNumber n = (1 ≤ n) × (n ≤ 255)
+-- a number below 256 that isn't the one that stands for something else
+abbrev pub IsNumberBut : ℕ → ℕ → Type 0
+IsNumberBut unsaid n = (n ≤ 255) × (n ≢ unsaid)
+
+-- a protocol's number
+pub number_some : (n : ℕ) → IsNumberBut 0 n → 1 ≤ n
+number_some n is = omega (arith, is.1)
+
+-- a type's number
+pub type_small : (n : ℕ) → IsNumberBut 255 n → n ≤ 254
+type_small n is = omega (arith, is.0, is.1)
 
 lacked_small : (h : Bool) (n : ℕ) → (nat_lt n (2 ^ 8) && h) ≡ true → n ≤ 255
 lacked_small h n e = grind (arith, nat_tests)
@@ -17,7 +25,8 @@ lacked_none : (h : Bool) (n : ℕ) → (nat_lt n (2 ^ 8) && not h) ≡ true → 
 lacked_none true n e f = grind (arith, nat_tests, e)
 lacked_none false n e f = let wrong : false ≡ true = f in cc
 
--- what a set with 0 lacks is from 1 to 255
-pub lacked_number : (rs : List Range) (n : ℕ) → has rs 0 ≡ true → has (set_not 8 rs) n ≡ true → IsNumber n
-lacked_number rs zero zeroed lacked = absurd (lacked_none (has rs 0) 0 (sym (not_has 8 rs 0) ∙ lacked) zeroed)
-lacked_number rs (suc n) zeroed lacked = (omega arith, lacked_small (not (has rs (suc n))) (suc n) (sym (not_has 8 rs (suc n)) ∙ lacked))
+-- what a set that holds that number lacks is another one below 256
+pub lacked_number : (unsaid : ℕ) (rs : List Range) (n : ℕ) → has rs unsaid ≡ true → has (set_not 8 rs) n ≡ true → IsNumberBut unsaid n
+lacked_number unsaid rs n holds lacked =
+    let lacks = sym (not_has 8 rs n) ∙ lacked in
+    (lacked_small (not (has rs n)) n lacks, λ e. lacked_none (has rs n) n lacks (ap (λ (m : ℕ). has rs m) e ∙ holds))

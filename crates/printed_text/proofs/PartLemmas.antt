@@ -34,14 +34,17 @@ join_groups current w1 w2 rest g1 g2 more target are =
     subst (λ (ws : List Word). AreGroups current ws ((g1 ++ g2) ++ more) target) (sym (append_assoc w1 w2 rest))
     (subst (λ (gs : List Group). AreGroups current (w1 ++ (w2 ++ rest)) gs target) (sym (append_assoc g1 g2 more)) are)
 
-pub marked : (negated : Bool) (option : Text) (word : Word) (rest : List Word)
-    → (mark_words negated ++ (bare option ∷ word ∷ [])) ++ rest ≡ mark_words negated ++ (bare option ∷ word ∷ rest)
-marked true option word rest = refl
-marked false option word rest = refl
+pub marked : (negated : Bool) (words rest : List Word) → (mark_words negated ++ words) ++ rest ≡ mark_words negated ++ (words ++ rest)
+marked true words rest = refl
+marked false words rest = refl
 
 pub mark_written : (negated : Bool) (words : List Word) → AllByRecursion CanStand words → AllByRecursion CanStand (mark_words negated ++ words)
 mark_written true words p = (mark_is_written, p)
 mark_written false words p = p
+
+mark_has_words : (negated : Bool) (words : List Word) → has_words words ≡ true → has_words (mark_words negated ++ words) ≡ true
+mark_has_words true words some = refl
+mark_has_words false words some = some
 
 -- how many arguments an option takes, by its row in the table
 pub arity_is : (name option : Text) (count : ℕ)
@@ -141,23 +144,23 @@ module _ {W : ℕ} (Reads : Text → ℕ → Type 0) (Knows : List Group → Typ
       → IsPart (option ∷ []) (mark_words negated ++ (bare option ∷ word ∷ [])) (literal ∷ [])
   base_part negated option word literal among arity is named written = record {
     groups = Base negated option (word.text ∷ []) ∷ [];
-    divides = λ current rest more target are. (rest, ((word ∷ [], (marked negated option word rest, among, arity, refl)), are current));
+    divides = λ current rest more target are. (rest, ((word ∷ [], (marked negated (bare option ∷ word ∷ []) rest, among, arity, refl)), are current));
     gives = λ all knows more others are. (literal, others, (refl, is, are));
     based = refl;
     written = mark_written negated (bare option ∷ word ∷ []) (named, (written, tt));
   }
 
   -- an option of a module, with as many arguments as its row says
-  pub option_part : (name option : Text) (taken : List Word) (expr : Expr (Prim_ W)) → arity_of name option ≡ Some (length taken) → IsOptionName option
-      → ((all : List Group) → Knows all → Says Reads all name option (texts taken) false expr) → CanStand (bare option) → AllByRecursion CanStand taken
-      → IsInner name (bare option ∷ taken) (Lit.Known false expr ∷ [])
-  option_part name option taken expr arity is_name says named written = record {
-    groups = ModuleOption (Some name) false option (texts taken) ∷ [];
-    divides = λ rest more target are. (rest, ((taken, (refl, refl, is_name, taken_there name option taken rest arity, refl)), are));
-    gives = λ all knows more others are. (Lit.Known false expr, others, (refl, (name, (refl, refl, says all knows)), are));
+  pub option_part : (negated : Bool) (name option : Text) (taken : List Word) (expr : Expr (Prim_ W)) → arity_of name option ≡ Some (length taken) → IsOptionName option
+      → ((all : List Group) → Knows all → Says Reads all name option (texts taken) negated expr) → CanStand (bare option) → AllByRecursion CanStand taken
+      → IsInner name (mark_words negated ++ (bare option ∷ taken)) (Lit.Known negated expr ∷ [])
+  option_part negated name option taken expr arity is_name says named written = record {
+    groups = ModuleOption (Some name) negated option (texts taken) ∷ [];
+    divides = λ rest more target are. (rest, ((taken, (marked negated (bare option ∷ taken) rest, refl, is_name, taken_there name option taken rest arity, refl)), are));
+    gives = λ all knows more others are. (Lit.Known negated expr, others, (refl, (name, (refl, refl, says all knows)), are));
     based = refl;
-    written = (named, written);
-    none = λ e. let wrong : true ≡ false = e in cc;
+    written = mark_written negated (bare option ∷ taken) (named, written);
+    none = λ e. let wrong : true ≡ false = sym (mark_has_words negated (bare option ∷ taken) refl) ∙ e in cc;
   }
 
   known_nothing : (name : Text) (after : List Group) → is_known_module name ≡ true → modules_literals {W = W} name after ≡ []

@@ -7,9 +7,11 @@ use Rattle.std.proofs.lemmas.List.{length-map}
 use Rattle.interval_set.specs.declared.set.Range.{Range}
 use Rattle.interval_set.specs.Numbers.{IsSet}
 use Rattle.addr_text.specs.Grammar.{IsPlain}
+use Rattle.name_set.specs.declared.pattern.Pattern.{Pattern}
 use Rattle.primitives.specs.declared.prim.Prim_.{Prim_}
 use Rattle.fw_rule.specs.declared.rule.Chain.{Chain}
 use Rattle.fw_rule.specs.declared.rule.Dump.{Dump}
+use Rattle.fw_rule.specs.declared.rule.Lit.{Lit}
 use Rattle.fw_rule.specs.declared.rule.Rule.{Rule}
 use Rattle.fw_rule.specs.declared.rule.Verdict.{Verdict}
 use Rattle.box_norm.specs.declared.cube.Cube.{Cube}
@@ -21,27 +23,30 @@ use Rattle.dump_grammar.specs.Printable.{IsPrintable}
 use Rattle.dump_grammar.specs.Reads.{IsDump}
 use Rattle.dump_grammar.specs.Targets.{IsJump}
 use Rattle.dump_print.specs.CubeLines.{choices_of, part_words}
-use Rattle.dump_print.specs.Helpers.{HelpedRule, helped_from, helper_name, returned_patterns, returned_protocols, verdict_text}
+use Rattle.dump_print.specs.Helpers.{HelpedRule, helped_from, helper_name, returned_patterns, returned_protocols, returned_types, verdict_text}
 use Rattle.dump_print.specs.Names.{name_word}
-use Rattle.dump_print.specs.Parts.{option_words, rule_words}
+use Rattle.dump_print.specs.declared.numbers.Numbers.{Numbers}
+use Rattle.dump_print.specs.Parts.{option_words, protocol_words, rule_words, type_words}
 use Rattle.dump_print.specs.PortCover.{CoverPorts}
 use Rattle.dump_print.specs.Printed.{all_lines, chain_words, printed, target_text}
-use Rattle.dump_print.specs.Protocols.{protocol_text}
+use Rattle.dump_print.specs.Numbers.{protocol_text, protocols_of}
 use Rattle.box_norm.specs.Sets.{HasSets}
 use Rattle.dump_print.specs.Spelling.{lines_text}
 use Rattle.dump_print.specs.Written.{KeepsWords}
 use Rattle.printed_filter.specs.Laws.{ArePrintable}
+use Rattle.printed_filter.specs.Literals.{protocol_literals, type_literals, yes}
 use Rattle.printed_filter.specs.PrintedDump.{Said, action_to, asked_rules, dump_of_helped, helper_chains_from, helpers_of, placed_from, printed_dump}
 use Rattle.printed_text.specs.Names.{HasPrintableNames}
 use Rattle.printed_text.proofs.Blocks.{Block, HasGoodRules, IsGoodChain, IsGoodRule, RuleText, all_words, block_names, chain_line, chains_from}
 use Rattle.printed_text.proofs.ChainLemmas.{asked_by, asked_declared, asked_no_helper, asked_clean, chain_printed, helper_allowed, helper_declared, helper_no_asked, helper_clean}
-use Rattle.printed_text.proofs.HelperLemmas.{asked_block, asked_line, asked_lines, asked_said, asked_words, helper_block, helper_blocks, helper_texts, helpers_chains, helpers_declared, helpers_length, helpers_words, in_text, out_text, protocol_line, return_text, return_texts, verdict_line}
+use Rattle.printed_text.proofs.HelperLemmas.{asked_block, asked_line, asked_lines, asked_said, asked_words, helper_block, helper_blocks, helper_texts, helpers_chains, helpers_declared, helpers_length, helpers_words, in_text, out_text, protocol_line, return_text, return_texts, type_line, verdict_line}
 use Rattle.printed_text.proofs.HelperNumbers.{IsFoundAt, IsHelperBlock, IsNumberIn, all_helped, blocks_in, helpers_apart, helpers_found, numbers_in}
 use Rattle.basics.proofs.Lists.{each_append, each_contained, each_map, each_weaker}
 use Rattle.printed_text.proofs.ListLemmas.{flat_since, map_since}
-use Rattle.printed_text.proofs.NumberLemmas.{IsNumber}
-use Rattle.printed_text.proofs.ReturnLemmas.{returned_numbers, returned_printable}
-use Rattle.printed_text.proofs.RuleLines.{IsReturn, asked_line_is_rule, asked_line_is_written, input_return, output_return, protocol_return, return_line_is_rule, return_line_is_written, verdict_is_written, verdict_line_is_rule, verdict_line_is_written}
+use Rattle.printed_text.proofs.NumberLemmas.{IsNumberBut}
+use Rattle.printed_text.proofs.NumberSets.{Sayable, is_sayable, protocol_set, type_set}
+use Rattle.printed_text.proofs.ReturnLemmas.{returned_printable, returned_sayable}
+use Rattle.printed_text.proofs.RuleLines.{AreParts, asked_line_is_rule, asked_line_is_written, input_return, output_return, protocol_return, return_line_is_rule, return_line_is_written, type_returned, verdict_is_written, verdict_line_is_rule, verdict_line_is_written}
 use Rattle.printed_text.proofs.TableLemmas.{AreGood, closer, opener, table_lines, text_is_dump}
 use Rattle.printed_text.proofs.TextLines.{IsPrinted, is_printed}
 use Rattle.printed_text.proofs.WordLemmas.{CanStand, clean_is_written, code_is_written}
@@ -118,11 +123,11 @@ module _ (keeps : KeepsWords) where
 
 module _ (W : ℕ) (Reads : Text → ℕ → Type 0) (keeps : KeepsWords) (names : List Text) where
   -- ---- the lines of a helper chain
-  return_good : (chain option : Text) (argument : Word) (x : Prim_ W) → CanStand (bare chain) → IsReturn W Reads option argument x
-      → IsGoodRule Reads names chain (return_text chain option argument x)
-  return_good chain option argument x stands is = record {
-    printed = rule_printed keeps chain (option_words option argument) (codes "RETURN") (return_line_is_written W Reads chain option argument x is stands);
-    says = return_line_is_rule W Reads names chain option argument x is;
+  return_good : (chain : Text) (protocols : Numbers) (words : List Word) (literals : List (Lit (Prim_ W))) → CanStand (bare chain) → AreParts Reads protocols words literals
+      → IsGoodRule Reads names chain (return_text chain words literals)
+  return_good chain protocols words literals stands parts = record {
+    printed = rule_printed keeps chain words (codes "RETURN") (return_line_is_written W Reads chain protocols words literals parts stands);
+    says = return_line_is_rule W Reads names chain protocols words literals parts;
   }
 
   verdict_good : (chain : Text) (accept : Bool) → CanStand (bare chain) → IsGoodRule {W = W} Reads names chain (verdict_line chain accept)
@@ -131,17 +136,41 @@ module _ (W : ℕ) (Reads : Text → ℕ → Type 0) (keeps : KeepsWords) (names
     says = verdict_line_is_rule W Reads names chain accept;
   }
 
+  in_good : (chain : Text) → CanStand (bare chain) → (pattern : Pattern) → IsPrintable pattern → IsGoodRule {W = W} Reads names chain (in_text chain pattern)
+  in_good chain stands pattern is =
+      return_good chain Numbers.Every (option_words (codes "-i") (name_word pattern)) (yes (Prim_.InName pattern) ∷ []) stands (input_return W Reads pattern is)
+
+  out_good : (chain : Text) → CanStand (bare chain) → (pattern : Pattern) → IsPrintable pattern → IsGoodRule {W = W} Reads names chain (out_text chain pattern)
+  out_good chain stands pattern is =
+      return_good chain Numbers.Every (option_words (codes "-o") (name_word pattern)) (yes (Prim_.OutName pattern) ∷ []) stands (output_return W Reads pattern is)
+
+  protocol_good : (chain : Text) → CanStand (bare chain) → (n : ℕ) → IsNumberBut 0 n → IsGoodRule {W = W} Reads names chain (protocol_line chain n)
+  protocol_good chain stands n is =
+      return_good chain Numbers.Every (option_words (codes "-p") (bare (protocol_text n))) (yes (Prim_.Proto n) ∷ []) stands (protocol_return W Reads n is)
+
+  type_good : (chain : Text) → CanStand (bare chain) → (protocols : Numbers) → Sayable 0 protocols → (n : ℕ) → IsNumberBut 255 n
+      → IsGoodRule {W = W} Reads names chain (type_line chain protocols n)
+  type_good chain stands protocols says n is =
+      return_good chain protocols (protocol_words protocols ++ type_words protocols (Numbers.Only n)) (protocol_literals protocols ++ type_literals protocols (Numbers.Only n)) stands
+      (type_returned W Reads protocols says n is)
+
   returns_good : (chain : Text) (cube : Cube W) → IsFine cube → CanStand (bare chain) → AllByRecursion (IsGoodRule Reads names chain) (return_texts chain cube)
   returns_good chain cube fine stands =
       let Good = IsGoodRule {W = W} Reads names chain in
-      each_append Good (map (in_text chain) (returned_patterns cube.in_name)) (map (out_text chain) (returned_patterns cube.out_name) ++ map (protocol_line chain) (returned_protocols cube.proto))
-      (map_since IsPrintable Good (in_text chain) (λ p is. return_good chain (codes "-i") (name_word p) (Prim_.InName p) stands (input_return W Reads p is))
-      (returned_patterns cube.in_name) (returned_printable cube.in_name fine.names.in_name))
-      (each_append Good (map (out_text chain) (returned_patterns cube.out_name)) (map (protocol_line chain) (returned_protocols cube.proto))
-      (map_since IsPrintable Good (out_text chain) (λ p is. return_good chain (codes "-o") (name_word p) (Prim_.OutName p) stands (output_return W Reads p is))
-      (returned_patterns cube.out_name) (returned_printable cube.out_name fine.names.out_name))
-      (map_since IsNumber Good (protocol_line chain) (λ n is. return_good chain (codes "-p") (bare (protocol_text n)) (Prim_.Proto n) stands (protocol_return W Reads n is))
-      (returned_protocols cube.proto) (returned_numbers cube fine.regular)))
+      let protocols = protocols_of cube.proto in
+      let inputs = returned_patterns cube.in_name in
+      let outputs = returned_patterns cube.out_name in
+      let numbers = returned_protocols cube.proto in
+      let types = returned_types cube.icmp in
+      let said = protocol_set cube fine.regular in
+      each_append Good (map (in_text chain) inputs) (map (out_text chain) outputs ++ (map (protocol_line chain) numbers ++ map (type_line chain protocols) types))
+      (map_since IsPrintable Good (in_text chain) (in_good chain stands) inputs (returned_printable cube.in_name fine.names.in_name))
+      (each_append Good (map (out_text chain) outputs) (map (protocol_line chain) numbers ++ map (type_line chain protocols) types)
+      (map_since IsPrintable Good (out_text chain) (out_good chain stands) outputs (returned_printable cube.out_name fine.names.out_name))
+      (each_append Good (map (protocol_line chain) numbers) (map (type_line chain protocols) types)
+      (map_since (IsNumberBut 0) Good (protocol_line chain) (protocol_good chain stands) numbers (returned_sayable 0 cube.proto said))
+      (map_since (IsNumberBut 255) Good (type_line chain protocols) (type_good chain stands protocols (is_sayable 0 cube.proto fine.sets.protocols said)) types
+      (returned_sayable 255 cube.icmp (type_set cube fine.regular)))))
 
   helper_good : (chain : Text) (rule : SimpleRule W) → IsFine rule.cube → CanStand (bare chain) → AllByRecursion (IsGoodRule Reads names chain) (helper_texts chain rule)
   helper_good chain rule fine stands =

@@ -1,5 +1,5 @@
--- What a helper chain gives back: printable patterns, and protocols from 1 to 255.
-use Rattle.std.proofs.Common.{◌≡◌, ◌∙◌, ◌+◌, ◌-◌, ◌<◌, ◌≤◌, ◌⊎◌, ℕ, zero, suc, List, [], ◌∷◌, Bool, true, false, ap, arith, inl, inr}
+-- What a helper chain gives back: printable patterns, and numbers that a line can say.
+use Rattle.std.proofs.Common.{◌≡◌, ◌∙◌, ◌+◌, ◌-◌, ◌<◌, ◌≤◌, ℕ, zero, suc, List, [], ◌∷◌, Bool, true, false, ap, arith, inl, inr}
 use Rattle.std.specs.Prelude.{if◌then◌else◌, nat_le}
 use Rattle.std.specs.List.{AllByRecursion}
 use Rattle.std.proofs.lemmas.Bool.{and_from, le-leb, or_left, or_right}
@@ -7,18 +7,15 @@ use Rattle.interval_set.specs.declared.set.Range.{Range}
 use Rattle.interval_set.specs.Numbers.{has, is_within}
 use Rattle.interval_set.specs.Spelling.{set_not}
 use Rattle.name_set.specs.declared.set.NameSet.{NameSet}
-use Rattle.box_norm.specs.declared.cube.Cube.{Cube}
-use Rattle.box_norm.specs.Pieces.{single}
-use Rattle.box_norm.specs.Regular.{IsRegular}
 use Rattle.dump_grammar.specs.Printable.{IsPrintable}
-use Rattle.dump_print.specs.Helpers.{returned_patterns, returned_protocols}
+use Rattle.dump_print.specs.Helpers.{returned_numbers, returned_patterns}
 use Rattle.dump_print.specs.Names.{is_plain_names}
-use Rattle.dump_print.specs.Protocols.{is_plain_protocols, lacking, numbers_from, numbers_of, protocols_of}
+use Rattle.dump_print.specs.Numbers.{are_plain_numbers, lacking, numbers_from, numbers_of, said_of}
 use Rattle.printed_text.specs.Names.{ArePrintableNames}
 use Rattle.basics.proofs.Lists.{each_weaker}
 use Rattle.printed_text.proofs.ListLemmas.{flat_since}
-use Rattle.printed_text.proofs.NumberLemmas.{IsNumber, lacked_number}
-use Rattle.printed_text.proofs.ProtocolParts.{single_only}
+use Rattle.printed_text.proofs.NumberLemmas.{IsNumberBut, lacked_number}
+use Rattle.printed_text.proofs.NumberSets.{IsSayableSet, single_only}
 
 unless : {X : Type 0} (P : X → Type 0) (b : Bool) (xs : List X) → AllByRecursion P xs → AllByRecursion P (if b then [] else xs)
 unless P true xs are = tt
@@ -48,17 +45,15 @@ numbers_has rs =
     flat_since (λ (r : Range). (n : ℕ) → r.lo ≤ n → n ≤ r.hi → has rs n ≡ true) (λ n. has rs n ≡ true) (λ (r : Range). numbers_from r.lo (r.hi + 1 - r.lo))
     (λ r f. all_from (λ n. has rs n ≡ true) r.lo (r.hi + 1 - r.lo) (λ n low high. f n low (omega arith))) rs (each_has rs)
 
-lacking_numbers : (rs : List Range) → has rs 0 ≡ true → AllByRecursion IsNumber (lacking rs)
-lacking_numbers rs zeroed = each_weaker (λ n. has (set_not 8 rs) n ≡ true) IsNumber (λ n lacked. lacked_number rs n zeroed lacked) (lacking rs) (numbers_has (set_not 8 rs))
+lacking_numbers : (unsaid : ℕ) (rs : List Range) → has rs unsaid ≡ true → AllByRecursion (IsNumberBut unsaid) (lacking rs)
+lacking_numbers unsaid rs holds =
+    each_weaker (λ n. has (set_not 8 rs) n ≡ true) (IsNumberBut unsaid) (λ n lacked. lacked_number unsaid rs n holds lacked) (lacking rs) (numbers_has (set_not 8 rs))
 
-none_if_plain : (rs : List Range) (b : Bool) → b ≡ true → AllByRecursion IsNumber (if b then [] else lacking rs)
-none_if_plain rs true e = tt
-none_if_plain rs false e = let wrong : false ≡ true = e in cc
+none_if_plain : (unsaid : ℕ) (rs : List Range) (b : Bool) → b ≡ true → AllByRecursion (IsNumberBut unsaid) (if b then [] else lacking rs)
+none_if_plain unsaid rs true e = tt
+none_if_plain unsaid rs false e = let wrong : false ≡ true = e in cc
 
-pub returned_numbers : {W : ℕ} (cube : Cube W) → IsRegular cube → AllByRecursion IsNumber (returned_protocols cube.proto)
-returned_numbers cube regular = by_protocols regular.proto
-  where
-    by_protocols : ((n : ℕ) × (1 ≤ n) × (n ≤ 255) × (cube.proto ≡ single n)) ⊎ (has cube.proto 0 ≡ true) → AllByRecursion IsNumber (returned_protocols cube.proto)
-    by_protocols (inl (n, some, small, is)) =
-        none_if_plain cube.proto (is_plain_protocols (protocols_of cube.proto)) (ap is_plain_protocols (ap protocols_of is ∙ single_only n some))
-    by_protocols (inr zeroed) = unless IsNumber (is_plain_protocols (protocols_of cube.proto)) (lacking cube.proto) (lacking_numbers cube.proto zeroed)
+pub returned_sayable : (unsaid : ℕ) (rs : List Range) → IsSayableSet unsaid rs → AllByRecursion (IsNumberBut unsaid) (returned_numbers (said_of unsaid rs) rs)
+returned_sayable unsaid rs (inl (n, number, is)) =
+    none_if_plain unsaid rs (are_plain_numbers (said_of unsaid rs)) (ap are_plain_numbers (ap (said_of unsaid) is ∙ single_only unsaid n number.1))
+returned_sayable unsaid rs (inr holds) = unless (IsNumberBut unsaid) (are_plain_numbers (said_of unsaid rs)) (lacking rs) (lacking_numbers unsaid rs holds)

@@ -1,5 +1,5 @@
 -- Where a dimension of two cubes has nothing in common.
-use Rattle.std.proofs.Common.{◌≡◌, ℕ, ◌+◌, ◌-◌, ◌^◌, ◌<◌, ◌≤◌, ◌==◌, List, [], ◌∷◌, Bool, true, false, ◌&&◌, Option, None, Some, refl, sym, ◌∙◌, ap, arith, length, get_or, drop, bit_and}
+use Rattle.std.proofs.Common.{◌≡◌, ℕ, ◌+◌, ◌-◌, ◌^◌, ◌<◌, ◌≤◌, ◌==◌, List, [], ◌∷◌, Bool, true, false, ◌&&◌, Option, None, Some, refl, ◌∙◌, ap, arith, length, get_or, drop, bit_and}
 use Rattle.std.specs.Prelude.{if◌then◌else◌}
 use Rattle.std.proofs.lemmas.Bool.Decides.{nat_tests}
 use Rattle.std.proofs.lemmas.List.{drop_all}
@@ -7,13 +7,10 @@ use Rattle.interval_set.specs.declared.set.Range.{Range}
 use Rattle.interval_set.specs.Numbers.{Ascends, IsSet, has}
 use Rattle.interval_set.specs.Spelling.{set_and}
 use Rattle.interval_set.specs.Laws.{has-below}
-use Rattle.interval_set.proofs.Spelling.{spelled_and}
 use Rattle.name_set.specs.declared.set.NameSet.{NameSet}
-use Rattle.name_set.specs.Names.{cut_under, narrower}
-use Rattle.name_set.specs.Patterns.{have_common}
 use Rattle.box_norm.specs.declared.cube.Cube.{Cube}
 use Rattle.box_norm.specs.Cubes.{has_no_range, is_none}
-use Rattle.box_norm.specs.Overlaps.{and_names, and_of, both_of, names_common, without_each}
+use Rattle.box_norm.specs.Overlaps.{and_names, and_of, both_of, names_common}
 use Rattle.region_cut.proofs.Items.{drop_at}
 
 -- a cube without a value in one of its dimensions is empty
@@ -38,6 +35,9 @@ module _ {W : ℕ} (c : Cube W) where
 
   pub none_state : c.state ≡ 0 → is_none c ≡ true
   none_state e = let h = ap (λ n. n == 0) e in grind (arith, h)
+
+  pub none_icmp : c.icmp ≡ [] → is_none c ≡ true
+  none_icmp e = let h = ap has_no_range e in grind (arith, h)
 
 module _ {W : ℕ} (a b : Cube W) where
   and_by : (i o : Option NameSet) → ((i o : NameSet) → is_none (both_of a b i o) ≡ true) → and_names a b i o ≡ None
@@ -68,6 +68,9 @@ module _ {W : ℕ} (a b : Cube W) where
 
   pub apart_state : bit_and a.state b.state ≡ 0 → and_of a b ≡ None
   apart_state e = and_none (λ i o. none_state (both_of a b i o) e)
+
+  pub apart_icmp : set_and 8 a.icmp b.icmp ≡ [] → and_of a b ≡ None
+  apart_icmp e = and_none (λ i o. none_icmp (both_of a b i o) e)
 
   no_out : (i : Option NameSet) → and_names a b i None ≡ None
   no_out None = refl

@@ -1,5 +1,5 @@
 -- The least values of a cube's dimensions, and where there are none.
-use Rattle.std.proofs.Common.{◌≡◌, ℕ, ◌+◌, ◌-◌, ◌*◌, ◌^◌, ◌<◌, ◌≤◌, List, [], ◌∷◌, Bool, true, false, ◌&&◌, Option, None, Some, ◌∙◌, ap, arith, inl, inr, subst, sym, length, get_or, drop}
+use Rattle.std.proofs.Common.{◌≡◌, ℕ, ◌+◌, ◌-◌, ◌*◌, ◌^◌, ◌<◌, ◌≤◌, List, ◌∷◌, Bool, true, false, ◌&&◌, Option, None, Some, ◌∙◌, ap, arith, inl, inr, subst, sym, length, get_or, drop}
 use Rattle.std.specs.Int.{bit_at, trailing_zeros, w64}
 use Rattle.std.proofs.lemmas.List.{drop_all}
 use Rattle.std.proofs.lemmas.Bool.Decides.{nat_tests}
@@ -79,6 +79,9 @@ module _ {W : ℕ} (c : Cube W) where
 
   pub no_state : ((n : ℕ) → has_bit c.state n ≡ false) → IsLeastOf c None
   no_state h p v = let f = h p.state in grind (arith, f)
+
+  pub no_icmp : ((n : ℕ) → has c.icmp n ≡ false) → IsLeastOf c None
+  no_icmp h p v = let f = h p.icmp in grind (arith, f)
 
 -- what one region answers
 held_by : (a b s : Bool) → s ≡ (a && b) → s ≡ false → a ≡ true → b ≡ true → ⊥

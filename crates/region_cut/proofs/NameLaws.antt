@@ -1,5 +1,5 @@
 -- Names under others: a set that is cut keeps what misses it.
-use Rattle.std.proofs.Common.{◌≡◌, List, [], ◌∷◌, ◌++◌, Bool, true, false, not, ◌&&◌, ◌||◌, Option, None, Some, refl, sym, ◌∙◌, ap, subst, arith, inl, inr}
+use Rattle.std.proofs.Common.{◌≡◌, List, [], ◌∷◌, ◌++◌, Bool, true, false, not, ◌||◌, Option, None, Some, refl, sym, ◌∙◌, ap, subst, arith, inl, inr}
 use Rattle.std.specs.Prelude.{IfSome, if◌then◌else◌, option_to_list}
 use Rattle.std.specs.List.{AllByRecursion, filter, flat_map}
 use Rattle.basics.proofs.Lists.{each_append}

@@ -52,7 +52,7 @@ was_by false rule regions p v f h = let e = each_holds rule.cube regions p v in 
 -- what a hit tells: its packet is in the region and in the cube
 least_holds : {W : ℕ} (c : Cube W) (p : Packet) → IsLeastPacket c p → holds_cube c p ≡ true
 least_holds c p l = all_true _ _ l.in_name.1 (all_true _ _ l.out_name.1 (all_true _ _ l.src.0 (all_true _ _ l.dst.0
-    (all_true _ _ l.proto.0 (all_true _ _ l.sport.0 (all_true _ _ l.dport.0 (all_true _ _ l.flags.0 l.state.0)))))))
+    (all_true _ _ l.proto.0 (all_true _ _ l.sport.0 (all_true _ _ l.dport.0 (all_true _ _ l.flags.0 (all_true _ _ l.state.0 l.icmp.0))))))))
 
 hit_holds : {W : ℕ} (a b : Cube W) (p : Packet) → IsHit a b p → (holds_cube a p ≡ true) × (holds_cube b p ≡ true)
 hit_holds a b p h =

@@ -1,7 +1,6 @@
 -- Cubes under others, dimension by dimension: what misses a cube misses each of its parts.
 use Rattle.std.proofs.Common.{◌≡◌, ℕ, zero, suc, ◌^◌, List, [], ◌∷◌, ◌++◌, Bool, true, false, not, ◌&&◌, Option, None, Some, refl, sym, ◌∙◌, ap, arith, bit_and, bit_xor}
 use Rattle.std.specs.Prelude.{IfSome, if◌then◌else◌}
-use Rattle.std.specs.Int.{bit_at}
 use Rattle.std.specs.List.{AllByRecursion, flat_map}
 use Rattle.std.proofs.lemmas.Bool.Decides.{nat_tests}
 use Rattle.std.proofs.lemmas.Nat.Bits.{bit_at-lt, bit_at-zero, same_from_bits}
@@ -14,11 +13,11 @@ use Rattle.name_set.specs.declared.set.NameSet.{NameSet}
 use Rattle.primitives.specs.Holds.{has_bit}
 use Rattle.box_norm.specs.declared.cube.Cube.{Cube}
 use Rattle.box_norm.specs.Cubes.{each_piece, is_none, kept}
-use Rattle.box_norm.specs.Overlaps.{and_names, and_of, both_of, minus_common, minus_of, names_common, names_less, to_dport, to_dst, to_flags, to_in_name, to_out_name, to_proto, to_sport, to_src}
+use Rattle.box_norm.specs.Overlaps.{and_names, and_of, both_of, minus_common, minus_of, names_common, names_less, to_dport, to_dst, to_flags, to_in_name, to_out_name, to_proto, to_sport, to_src, to_state}
 use Rattle.box_norm.proofs.PieceLaws.{bits_and, bits_less}
 use Rattle.box_norm.proofs.RegularLaws.{kept_all}
-use Rattle.region_cut.specs.inner.Misses.{DestinationPorts, Destinations, Flags, InNames, Misses, NoneOfBoth, OutNames, Protocols, SourcePorts, Sources, States}
-use Rattle.region_cut.proofs.ApartLaws.{apart_dport, apart_dst, apart_flags, apart_in_name, apart_out_name, apart_proto, apart_sport, apart_src, apart_state}
+use Rattle.region_cut.specs.inner.Misses.{DestinationPorts, Destinations, Flags, InNames, Misses, NoneOfBoth, OutNames, Protocols, SourcePorts, Sources, States, Types}
+use Rattle.region_cut.proofs.ApartLaws.{apart_dport, apart_dst, apart_flags, apart_icmp, apart_in_name, apart_out_name, apart_proto, apart_sport, apart_src, apart_state}
 use Rattle.region_cut.proofs.LeastLaws.{zero_bits}
 use Rattle.region_cut.proofs.NameLaws.{NamesUnder, common_stays, less_stay, missed_names, names_miss_under, names_self}
 
@@ -55,6 +54,7 @@ pub record IsUnder {W : ℕ} (a c : Cube W) : Type 0 where
   pub dport : AllIn (has a.dport) (has c.dport)
   pub flags : AllIn (has_bit a.flags) (has_bit c.flags)
   pub state : AllIn (has_bit a.state) (has_bit c.state)
+  pub icmp : AllIn (has a.icmp) (has c.icmp)
 
 pub under_self : {W : ℕ} (a : Cube W) → IsUnder a a
 under_self a = record {
@@ -67,6 +67,7 @@ under_self a = record {
   dport = λ n h. h;
   flags = λ n h. h;
   state = λ n h. h;
+  icmp = λ n h. h;
 }
 
 -- what a cube has in common with another, and its pieces without the other
@@ -86,6 +87,7 @@ module _ {W : ℕ} (region a b : Cube W) (u : IsUnder region a) where
     dport = and_in 16 (has region.dport) a.dport b.dport u.dport;
     flags = bits_in (has_bit region.flags) a.flags b.flags u.flags;
     state = bits_in (has_bit region.state) a.state b.state u.state;
+    icmp = and_in 8 (has region.icmp) a.icmp b.icmp u.icmp;
   }
 
   common_by : (i o : Option NameSet) → IfSome i (NamesUnder region.in_name) → IfSome o (NamesUnder region.out_name) → IfSome (and_names a b i o) (IsUnder region)
@@ -117,31 +119,33 @@ next_names region pieces so N with f ss h =
 
 made : {W : ℕ} (region c : Cube W) → NamesUnder region.in_name c.in_name → NamesUnder region.out_name c.out_name → AllIn (has region.src) (has c.src) → AllIn (has region.dst) (has c.dst) →
     AllIn (has region.proto) (has c.proto) → AllIn (has region.sport) (has c.sport) → AllIn (has region.dport) (has c.dport) → AllIn (has_bit region.flags) (has_bit c.flags) →
-    AllIn (has_bit region.state) (has_bit c.state) → IsUnder region c
-made region c i o s d p q r f t = record { in_name = i; out_name = o; src = s; dst = d; proto = p; sport = q; dport = r; flags = f; state = t }
+    AllIn (has_bit region.state) (has_bit c.state) → AllIn (has region.icmp) (has c.icmp) → IsUnder region c
+made region c i o s d p q r f t k = record { in_name = i; out_name = o; src = s; dst = d; proto = p; sport = q; dport = r; flags = f; state = t; icmp = k }
 
 rest_under : {W : ℕ} (region a b m : Cube W) → IsUnder region a → IsUnder region m → AllByRecursion (IsUnder region) (minus_common a b (Some m))
 rest_under {W} region a b m u v =
     let s1 = next_names region [] (record { each = tt }) (NamesUnder region.in_name) (λ s. record a { in_name = s })
-    (λ s n. made region (record a { in_name = s }) n u.out_name u.src u.dst u.proto u.sport u.dport u.flags u.state)
+    (λ s n. made region (record a { in_name = s }) n u.out_name u.src u.dst u.proto u.sport u.dport u.flags u.state u.icmp)
     (names_less a.in_name b.in_name) (less_stay region.in_name a.in_name b.in_name u.in_name) in
     let s2 = next_names region _ s1 (NamesUnder region.out_name) (λ s. record (to_in_name m a) { out_name = s })
-    (λ s n. made region (record (to_in_name m a) { out_name = s }) v.in_name n u.src u.dst u.proto u.sport u.dport u.flags u.state)
+    (λ s n. made region (record (to_in_name m a) { out_name = s }) v.in_name n u.src u.dst u.proto u.sport u.dport u.flags u.state u.icmp)
     (names_less a.out_name b.out_name) (less_stay region.out_name a.out_name b.out_name u.out_name) in
     let c3 = record (to_out_name m a) { src = set_minus W a.src b.src } in
-    let s3 = next region _ s2 c3 (made region c3 v.in_name v.out_name (minus_in W (has region.src) a.src b.src u.src) u.dst u.proto u.sport u.dport u.flags u.state) in
+    let s3 = next region _ s2 c3 (made region c3 v.in_name v.out_name (minus_in W (has region.src) a.src b.src u.src) u.dst u.proto u.sport u.dport u.flags u.state u.icmp) in
     let c4 = record (to_src m a) { dst = set_minus W a.dst b.dst } in
-    let s4 = next region _ s3 c4 (made region c4 v.in_name v.out_name v.src (minus_in W (has region.dst) a.dst b.dst u.dst) u.proto u.sport u.dport u.flags u.state) in
+    let s4 = next region _ s3 c4 (made region c4 v.in_name v.out_name v.src (minus_in W (has region.dst) a.dst b.dst u.dst) u.proto u.sport u.dport u.flags u.state u.icmp) in
     let c5 = record (to_dst m a) { proto = set_minus 8 a.proto b.proto } in
-    let s5 = next region _ s4 c5 (made region c5 v.in_name v.out_name v.src v.dst (minus_in 8 (has region.proto) a.proto b.proto u.proto) u.sport u.dport u.flags u.state) in
+    let s5 = next region _ s4 c5 (made region c5 v.in_name v.out_name v.src v.dst (minus_in 8 (has region.proto) a.proto b.proto u.proto) u.sport u.dport u.flags u.state u.icmp) in
     let c6 = record (to_proto m a) { sport = set_minus 16 a.sport b.sport } in
-    let s6 = next region _ s5 c6 (made region c6 v.in_name v.out_name v.src v.dst v.proto (minus_in 16 (has region.sport) a.sport b.sport u.sport) u.dport u.flags u.state) in
+    let s6 = next region _ s5 c6 (made region c6 v.in_name v.out_name v.src v.dst v.proto (minus_in 16 (has region.sport) a.sport b.sport u.sport) u.dport u.flags u.state u.icmp) in
     let c7 = record (to_sport m a) { dport = set_minus 16 a.dport b.dport } in
-    let s7 = next region _ s6 c7 (made region c7 v.in_name v.out_name v.src v.dst v.proto v.sport (minus_in 16 (has region.dport) a.dport b.dport u.dport) u.flags u.state) in
+    let s7 = next region _ s6 c7 (made region c7 v.in_name v.out_name v.src v.dst v.proto v.sport (minus_in 16 (has region.dport) a.dport b.dport u.dport) u.flags u.state u.icmp) in
     let c8 = record (to_dport m a) { flags = bit_xor a.flags (bit_and a.flags b.flags) } in
-    let s8 = next region _ s7 c8 (made region c8 v.in_name v.out_name v.src v.dst v.proto v.sport v.dport (bits_left_in (has_bit region.flags) a.flags b.flags u.flags) u.state) in
+    let s8 = next region _ s7 c8 (made region c8 v.in_name v.out_name v.src v.dst v.proto v.sport v.dport (bits_left_in (has_bit region.flags) a.flags b.flags u.flags) u.state u.icmp) in
     let c9 = record (to_flags m a) { state = bit_xor a.state (bit_and a.state b.state) } in
-    (next region _ s8 c9 (made region c9 v.in_name v.out_name v.src v.dst v.proto v.sport v.dport v.flags (bits_left_in (has_bit region.state) a.state b.state u.state))).each
+    let s9 = next region _ s8 c9 (made region c9 v.in_name v.out_name v.src v.dst v.proto v.sport v.dport v.flags (bits_left_in (has_bit region.state) a.state b.state u.state) u.icmp) in
+    let c10 = record (to_state m a) { icmp = set_minus 8 a.icmp b.icmp } in
+    (next region _ s9 c10 (made region c10 v.in_name v.out_name v.src v.dst v.proto v.sport v.dport v.flags v.state (minus_in 8 (has region.icmp) a.icmp b.icmp u.icmp))).each
 
 minus_by : {W : ℕ} (region a b : Cube W) → IsUnder region a → (o : Option (Cube W)) → IfSome o (IsUnder region) → AllByRecursion (IsUnder region) (minus_common a b o)
 minus_by region a b u None v = (u, tt)
@@ -172,6 +176,7 @@ misses_under a c b u (SourcePorts h) = SourcePorts (none_under (has a.sport) (ha
 misses_under a c b u (DestinationPorts h) = DestinationPorts (none_under (has a.dport) (has b.dport) (has c.dport) u.dport h)
 misses_under a c b u (Flags h) = Flags (none_under (has_bit a.flags) (has_bit b.flags) (has_bit c.flags) u.flags h)
 misses_under a c b u (States h) = States (none_under (has_bit a.state) (has_bit b.state) (has_bit c.state) u.state h)
+misses_under a c b u (Types h) = Types (none_under (has a.icmp) (has b.icmp) (has c.icmp) u.icmp h)
 
 pub each_missed : {W : ℕ} (region cube : Cube W) (parts : List (Cube W)) → AllByRecursion (IsUnder region) parts → Misses region cube → AllByRecursion (λ c. Misses c cube) parts
 each_missed region cube parts h m = each_weaker (IsUnder region) (λ c. Misses c cube) (λ c u. misses_under region c cube u m) parts h
@@ -211,6 +216,7 @@ missed_none a b (SourcePorts h) = apart_sport a b (no_numbers 16 a.sport b.sport
 missed_none a b (DestinationPorts h) = apart_dport a b (no_numbers 16 a.dport b.dport h)
 missed_none a b (Flags h) = apart_flags a b (no_bits a.flags b.flags h)
 missed_none a b (States h) = apart_state a b (no_bits a.state b.state h)
+missed_none a b (Types h) = apart_icmp a b (no_numbers 8 a.icmp b.icmp h)
 
 -- a cube that misses all regions leaves them as they are
 pub missed_stay : {W : ℕ} (cube : Cube W) (regions : List (Cube W)) → AllByRecursion (λ c. Misses c cube) regions → each_piece (λ c. minus_of c cube) regions ≡ regions

@@ -17,10 +17,10 @@ use Rattle.box_norm.specs.declared.cube.Cube.{Cube}
 use Rattle.box_norm.specs.Cubes.{each_piece, is_none, kept}
 use Rattle.box_norm.specs.Normal.{whole_of}
 use Rattle.box_norm.specs.Regular.{HasStates}
-use Rattle.box_norm.specs.Overlaps.{and_of, cut_by_each, minus_common, minus_of, names_less, to_dport, to_dst, to_flags, to_in_name, to_out_name, to_proto, to_sport, to_src, with_in_names, with_out_names}
+use Rattle.box_norm.specs.Overlaps.{and_of, cut_by_each, minus_common, minus_of, names_less, to_dport, to_dst, to_flags, to_in_name, to_out_name, to_proto, to_sport, to_src, to_state, with_in_names, with_out_names}
 use Rattle.box_norm.proofs.PieceLaws.{bits_less}
 use Rattle.box_norm.proofs.StayLaws.{less_states}
-use Rattle.region_cut.proofs.ApartLaws.{none_dport, none_dst, none_proto, none_sport, none_src, none_state}
+use Rattle.region_cut.proofs.ApartLaws.{none_dport, none_dst, none_icmp, none_proto, none_sport, none_src, none_state}
 
 -- no name is outside the set of all
 abbrev every : NameSet
@@ -73,11 +73,12 @@ kept_one : {W : ℕ} (c : Cube W) → length (kept c) ≤ 1
 kept_one c = one_by (is_none c) c
 
 -- at most the piece of the flags
-at_most : {X : Type 0} (a b c d e f g h i : List X) → length a ≡ 0 → length b ≡ 0 → length c ≡ 0 → length d ≡ 0 → length e ≡ 0 → length f ≡ 0 → length g ≡ 0 → length h ≤ 1 → length i ≡ 0 →
-    length ((((((((a ++ b) ++ c) ++ d) ++ e) ++ f) ++ g) ++ h) ++ i) ≤ 1
-at_most a b c d e f g h i la lb lc ld le lf lg lh li =
+at_most : {X : Type 0} (a b c d e f g h i j : List X) → length a ≡ 0 → length b ≡ 0 → length c ≡ 0 → length d ≡ 0 → length e ≡ 0 → length f ≡ 0 → length g ≡ 0 → length h ≤ 1 → length i ≡ 0 →
+    length j ≡ 0 → length (((((((((a ++ b) ++ c) ++ d) ++ e) ++ f) ++ g) ++ h) ++ i) ++ j) ≤ 1
+at_most a b c d e f g h i j la lb lc ld le lf lg lh li lj =
     omega (
       arith,
+      length-append ((((((((a ++ b) ++ c) ++ d) ++ e) ++ f) ++ g) ++ h) ++ i) j,
       length-append (((((((a ++ b) ++ c) ++ d) ++ e) ++ f) ++ g) ++ h) i,
       length-append ((((((a ++ b) ++ c) ++ d) ++ e) ++ f) ++ g) h,
       length-append (((((a ++ b) ++ c) ++ d) ++ e) ++ f) g,
@@ -95,6 +96,7 @@ at_most a b c d e f g h i la lb lc ld le lf lg lh li =
       lg,
       lh,
       li,
+      lj,
     )
 
 module _ {W : ℕ} (w : IsWidth W) (a : Cube W) (s : HasStates a) where
@@ -114,6 +116,7 @@ module _ {W : ℕ} (w : IsWidth W) (a : Cube W) (s : HasStates a) where
       (kept (record (to_sport m a) { dport = set_minus 16 a.dport b.dport }))
       (kept (record (to_dport m a) { flags = bit_xor a.flags (bit_and a.flags b.flags) }))
       (kept (record (to_flags m a) { state = bit_xor a.state (bit_and a.state b.state) }))
+      (kept (record (to_state m a) { icmp = set_minus 8 a.icmp b.icmp }))
       (ap (λ l. length (with_in_names a l)) (no_less a.in_name))
       (ap (λ l. length (with_out_names (to_in_name m a) l)) (no_less a.out_name))
       (kept_none (record (to_out_name m a) { src = set_minus W a.src b.src }) (none_src (record (to_out_name m a) { src = set_minus W a.src b.src }) (no_numbers_less W a.src w)))
@@ -123,6 +126,7 @@ module _ {W : ℕ} (w : IsWidth W) (a : Cube W) (s : HasStates a) where
       (kept_none (record (to_sport m a) { dport = set_minus 16 a.dport b.dport }) (none_dport (record (to_sport m a) { dport = set_minus 16 a.dport b.dport }) (no_numbers_less 16 a.dport (inr (inl refl)))))
       (kept_one (record (to_dport m a) { flags = bit_xor a.flags (bit_and a.flags b.flags) }))
       (kept_none (record (to_flags m a) { state = bit_xor a.state (bit_and a.state b.state) }) (none_state (record (to_flags m a) { state = bit_xor a.state (bit_and a.state b.state) }) (no_states_less a.state s)))
+      (kept_none (record (to_state m a) { icmp = set_minus 8 a.icmp b.icmp }) (none_icmp (record (to_state m a) { icmp = set_minus 8 a.icmp b.icmp }) (no_numbers_less 8 a.icmp (inl refl))))
 
 -- as many regions at most
 pub without_whole : (W : ℕ) → IsWidth W → (regions : List (Cube W)) → AllByRecursion HasStates regions → length (each_piece (λ c. minus_of c (whole_of W)) regions) ≤ length regions

@@ -24,6 +24,7 @@ pub record IsLeastPacket {W : ℕ} (c : Cube W) (p : Packet) : Type 0 where
   pub dport : IsLeastNumber c.dport p.dport
   pub flags : IsLeastBit c.flags p.flags
   pub state : IsLeastBit c.state p.state
+  pub icmp : IsLeastNumber c.icmp p.icmp
 
 -- no valid packet is in both cubes
 abbrev pub AreApart : {W : ℕ} → Cube W → Cube W → Type 0

@@ -77,6 +77,7 @@ fn are_apart_by_numbers<const W: u32>(a: &Cube<W>, b: &Cube<W>) -> bool
     a.state & b.state == 0
         || a.flags & b.flags == 0
         || sets_are_apart(&a.proto, &b.proto)
+        || sets_are_apart(&a.icmp, &b.icmp)
         || sets_are_apart(&a.sport, &b.sport)
         || sets_are_apart(&a.dport, &b.dport)
         || sets_are_apart(&a.src, &b.src)

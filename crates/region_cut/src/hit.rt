@@ -69,6 +69,9 @@ fn least_packet<const W: u32>(alloc: Global, cube: &Cube<W>) -> Result<Option<Pa
     let Some(state) = least_bit(cube.state as u64) else {
         return Ok(None);
     };
+    let Some(icmp) = least_number(&cube.icmp) else {
+        return Ok(None);
+    };
     Ok(Some(Packet {
         in_name,
         out_name,
@@ -79,6 +82,7 @@ fn least_packet<const W: u32>(alloc: Global, cube: &Cube<W>) -> Result<Option<Pa
         dport: dport as u16,
         flags,
         state,
+        icmp: icmp as u8,
     }))
 }
 

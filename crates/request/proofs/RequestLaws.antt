@@ -14,7 +14,7 @@ use Rattle.request.specs.declared.types.Mode.{Mode}
 use Rattle.request.specs.declared.types.Mode.TheVariants as mode
 use Rattle.request.specs.declared.types.Request.{Request}
 use Rattle.request.specs.Arguments.{IsService}
-use Rattle.request.specs.Fields.{Given, IsAsked, SaysAddress, SaysName, SaysPort, SaysState}
+use Rattle.request.specs.Fields.{Given, IsAsked, SaysAddress, SaysName, SaysPort, SaysState, SaysType}
 use Rattle.request.specs.Requests.{Asks, AsksLoad, AsksMatrix, Parts, Spells, Suits, word_of}
 use Rattle.request.proofs.ClaimLemmas.{claims_once}
 use Rattle.request.proofs.ServiceLemmas.{port_once, service_once, side_once}
@@ -41,9 +41,12 @@ addresses_once true value x y p q = ipv6_one value x y p q
 states_once : Once SaysState
 states_once value x y p q = let e : Some x ≡ Some y = sym p ∙ q in cc
 
+types_once : Once SaysType
+types_once value x y p q = decimal_injective x y (omega (arith, p.0)) (omega (arith, q.0)) (sym p.1 ∙ q.1)
+
 same_packet : (p q : Packet) → p.in_name ≡ q.in_name → p.out_name ≡ q.out_name → p.src ≡ q.src → p.dst ≡ q.dst → p.proto ≡ q.proto → p.sport ≡ q.sport
-    → p.dport ≡ q.dport → p.flags ≡ q.flags → p.state ≡ q.state → p ≡ q
-same_packet p q a b c d e f g h s = λ i. record {
+    → p.dport ≡ q.dport → p.flags ≡ q.flags → p.state ≡ q.state → p.icmp ≡ q.icmp → p ≡ q
+same_packet p q a b c d e f g h s t = λ i. record {
   in_name = a i;
   out_name = b i;
   src = c i;
@@ -53,6 +56,7 @@ same_packet p q a b c d e f g h s = λ i. record {
   dport = g i;
   flags = h i;
   state = s i;
+  icmp = t i;
 }
 
 packet_once : (six : Bool) (arguments : List Text) (p q : Packet) → IsAsked six arguments p → IsAsked six arguments q → p ≡ q
@@ -66,6 +70,7 @@ packet_once six arguments p q a b = same_packet p q
     (given_once SaysPort 0 port_once _ _ _ a.dport b.dport)
     (given_once SpellsFlags 0 flags_once _ _ _ a.flags b.flags)
     (given_once SaysState 1 states_once _ _ _ a.state b.state)
+    (given_once SaysType 0 types_once _ _ _ a.icmp b.icmp)
 
 -- a number for each word
 index_of : Text → ℕ

@@ -22,7 +22,7 @@ HasTwo values = (a b : List ℕ) × (more : List (List ℕ)) × (values ≡ a �
 -- the fields' names, each with its `=`
 abbrev pub field_names : List (List ℕ)
 field_names = codes "in=" ∷ codes "out=" ∷ codes "src=" ∷ codes "dst=" ∷ codes "proto=" ∷ codes "sport=" ∷ codes "dport=" ∷ codes "flags="
-    ∷ codes "state=" ∷ []
+    ∷ codes "state=" ∷ codes "icmp=" ∷ []
 
 -- whether the argument gives a value to some field
 unfoldable pub is_field : List ℕ → Bool
@@ -48,6 +48,9 @@ SaysPort value port = (port ≤ 65535) × (value ≡ decimal port)
 abbrev pub SaysState : List ℕ → ℕ → Type 0
 SaysState value state = number_in state_names value ≡ Some state
 
+abbrev pub SaysType : List ℕ → ℕ → Type 0
+SaysType value icmp = (icmp ≤ 255) × (value ≡ decimal icmp)
+
 -- The arguments are fields of this packet, no field twice. A missing name is empty, a missing state is NEW, which is 1, and any other missing field is 0.
 pub record IsAsked (six : Bool) (arguments : List (List ℕ)) (p : Packet) : Type 0 where
   pub fields : IsTrue (list_all is_field arguments)
@@ -60,3 +63,4 @@ pub record IsAsked (six : Bool) (arguments : List (List ℕ)) (p : Packet) : Typ
   pub dport : Given SaysPort 0 (values_of (codes "dport=") arguments) p.dport
   pub flags : Given SpellsFlags 0 (values_of (codes "flags=") arguments) p.flags
   pub state : Given SaysState 1 (values_of (codes "state=") arguments) p.state
+  pub icmp : Given SaysType 0 (values_of (codes "icmp=") arguments) p.icmp

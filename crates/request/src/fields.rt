@@ -3,7 +3,7 @@ ghost use Rattle.std.specs.List.{list_all, list_any};
 ghost use Rattle.std.specs.Option.{option_to_list};
 ghost use Rattle.name_set.specs.Bytes.{AreBytes};
 ghost use Rattle.primitives.specs.Words.{SpellsFlags, SpellsProto};
-ghost use Rattle.request.specs.Fields.{Given, HasTwo, SaysAddress, SaysName, SaysPort, SaysState, is_field, value_after, values_of};
+ghost use Rattle.request.specs.Fields.{Given, HasTwo, SaysAddress, SaysName, SaysPort, SaysState, SaysType, is_field, value_after, values_of};
 ghost use Rattle.request.specs.Requests.{width_of};
 
 use crate::SpellFault;
@@ -14,8 +14,9 @@ use primitives::{read_flags, read_proto, read_state};
 use std::alloc::Global;
 
 // The names of the fields, each with its `=`.
-static FIELDS: [&[u8]; 9] = [
+static FIELDS: [&[u8]; 10] = [
     b"in=", b"out=", b"src=", b"dst=", b"proto=", b"sport=", b"dport=", b"flags=", b"state=",
+    b"icmp=",
 ];
 
 // What follows the field's name and `=`, where the argument begins with them.
@@ -176,5 +177,19 @@ pub fn state(field: &[u8], arguments: &[&str]) -> Result<u8, SpellFault>
     match value_of(field, arguments)? {
         Some(value) => read_state(value).ok_or(SpellFault::Usage),
         None => Ok(1),
+    }
+}
+
+/// The type of a message in a field, a number to 255, and 0 where none is given.
+pub fn icmp_type(field: &[u8], arguments: &[&str]) -> Result<u8, SpellFault>
+    ensures ok { IfOk result (Given SaysType 0 (values_of field.now (map (λ s. s.now) arguments.now))) }
+    ensures usage { OnErr result ((x : ℕ) → Given SaysType 0 (values_of field.now (map (λ s. s.now) arguments.now)) x → ⊥) }
+{
+    match value_of(field, arguments)? {
+        Some(value) => match read_number(value, 255) {
+            Some(number) => Ok(number as u8),
+            None => Err(SpellFault::Usage),
+        },
+        None => Ok(0),
     }
 }

@@ -5,7 +5,7 @@ ghost use Rattle.request.specs.Fields.{IsAsked};
 ghost use Rattle.request.specs.Requests.{width_of};
 
 use crate::SpellFault;
-use crate::fields::{address, are_fields, flags, name, port, protocol, state};
+use crate::fields::{address, are_fields, flags, icmp_type, name, port, protocol, state};
 use primitives::Packet;
 use std::alloc::Global;
 
@@ -32,6 +32,7 @@ pub fn packet_of(alloc: Global, six: bool, arguments: &[&str]) -> Result<Packet,
         dport: port(b"dport=", arguments)?,
         flags: flags(b"flags=", arguments)?,
         state: state(b"state=", arguments)?,
+        icmp: icmp_type(b"icmp=", arguments)?,
         in_name: name(alloc, b"in=", arguments)?,
         out_name: name(alloc, b"out=", arguments)?,
     })

@@ -60,6 +60,7 @@ module _ {W : ℕ} (dump : Dump (Prim_ W)) (chain : ℕ) where
       from_alike s t d lie (Prim_.DstPorts ports) k = refl
       from_alike s t d lie (Prim_.Flags mask comp) k = refl
       from_alike s t d lie (Prim_.State states) k = refl
+      from_alike s t d lie (Prim_.IcmpKind m) k = refl
       from_alike s t d lie Prim_.Always k = refl
 
       to_alike : (s d e : ℕ) → LieAlike sets d e → PassAlike dump chain (service_packet service s d) (service_packet service s e)
@@ -72,6 +73,7 @@ module _ {W : ℕ} (dump : Dump (Prim_ W)) (chain : ℕ) where
       to_alike s d e lie (Prim_.DstPorts ports) k = refl
       to_alike s d e lie (Prim_.Flags mask comp) k = refl
       to_alike s d e lie (Prim_.State states) k = refl
+      to_alike s d e lie (Prim_.IcmpKind m) k = refl
       to_alike s d e lie Prim_.Always k = refl
 
       module _ (groups : List (List Range)) (h : AreGroups W sets groups) (side : Side) (policy : Verdict) (rules : List (SimpleRule W)) (accepts : Accepts side dump chain policy rules)

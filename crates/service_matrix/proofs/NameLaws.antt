@@ -94,6 +94,7 @@ module _ {W : ℕ} (dump : Dump (Prim_ W)) (chain : ℕ) where
     names_alike (Prim_.DstPorts ports) k = ap (λ (z : Packet). holds_of {W = W} (Prim_.DstPorts ports) z) between
     names_alike (Prim_.Flags mask comp) k = ap (λ (z : Packet). holds_of {W = W} (Prim_.Flags mask comp) z) between
     names_alike (Prim_.State states) k = ap (λ (z : Packet). holds_of {W = W} (Prim_.State states) z) between
+    names_alike (Prim_.IcmpKind m) k = ap (λ (z : Packet). holds_of {W = W} (Prim_.IcmpKind m) z) between
     names_alike Prim_.Always k = refl
 
     names_alike_back : PassAlike Hidden chain (service_packet service s d) p

@@ -13,7 +13,7 @@ use Rattle.fw_rule.specs.Answers.{is_accept}
 use Rattle.primitives.specs.Holds.{has_bit}
 use Rattle.name_set.specs.Names.{has_name}
 use Rattle.service_packet.specs.declared.service.Service.{Service}
-use Rattle.service_packet.specs.Packets.{opening_flags, service_packet}
+use Rattle.service_packet.specs.Packets.{opening_flags, opening_type, service_packet}
 use Rattle.service_matrix.specs.declared.rows.Fixed.{Fixed}
 use Rattle.service_matrix.specs.declared.rows.Part.{Part}
 use Rattle.service_matrix.proofs.Joins.{drop_at}
@@ -38,18 +38,18 @@ swapped false true r = refl
 swapped false false r = refl
 
 module _ {W : ℕ} (cube : Cube W) (service : Service) where
-  -- whether the cube has the service's names, protocol, ports, flags and state
+  -- whether the cube has the service's names, protocol, ports, flags, state and type
   abbrev pub fits_service : Bool
   fits_service = has_name cube.in_name [] && (has_name cube.out_name [] && (has cube.proto service.proto && (has cube.sport service.sport
-      && (has cube.dport service.dport && (has_bit cube.flags (opening_flags service.proto) && has_bit cube.state 1)))))
+      && (has cube.dport service.dport && (has_bit cube.flags (opening_flags service.proto) && (has_bit cube.state 1 && has cube.icmp (opening_type service.proto)))))))
 
   pub by_addresses : (fixed : Fixed) (here there : ℕ) → holds_cube cube (packet_at fixed service here there) ≡ (has (near cube fixed) here && (has (far cube fixed) there && fits_service))
   by_addresses Fixed.Source here there =
       moved (has_name cube.in_name []) (has_name cube.out_name []) (has cube.src here) (has cube.dst there)
-      (has cube.proto service.proto && (has cube.sport service.sport && (has cube.dport service.dport && (has_bit cube.flags (opening_flags service.proto) && has_bit cube.state 1))))
+      (has cube.proto service.proto && (has cube.sport service.sport && (has cube.dport service.dport && (has_bit cube.flags (opening_flags service.proto) && (has_bit cube.state 1 && has cube.icmp (opening_type service.proto))))))
   by_addresses Fixed.Destination here there =
       moved (has_name cube.in_name []) (has_name cube.out_name []) (has cube.src there) (has cube.dst here)
-      (has cube.proto service.proto && (has cube.sport service.sport && (has cube.dport service.dport && (has_bit cube.flags (opening_flags service.proto) && has_bit cube.state 1))))
+      (has cube.proto service.proto && (has cube.sport service.sport && (has cube.dport service.dport && (has_bit cube.flags (opening_flags service.proto) && (has_bit cube.state 1 && has cube.icmp (opening_type service.proto))))))
       ∙ swapped (has cube.src there) (has cube.dst here) fits_service
 
   module _ (fixed : Fixed) (here : ℕ) where

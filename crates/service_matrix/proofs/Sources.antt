@@ -117,6 +117,7 @@ module _ (W : ℕ) where
   is_one (Prim_.DstPorts ports) set c = absurd (none set c)
   is_one (Prim_.Flags mask comp) set c = absurd (none set c)
   is_one (Prim_.State states) set c = absurd (none set c)
+  is_one (Prim_.IcmpKind m) set c = absurd (none set c)
   is_one Prim_.Always set c = absurd (none set c)
 
 module _ {W : ℕ} (dump : Dump (Prim_ W)) (chain : ℕ) where

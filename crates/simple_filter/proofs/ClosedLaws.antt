@@ -10,7 +10,7 @@ use Rattle.fw_rule.specs.Walk.{Here, policy_of}
 use Rattle.chain_graph.specs.declared.graph.Ranked.{Ranked}
 use Rattle.chain_graph.specs.declared.graph.GraphFault.{GraphFault}
 use Rattle.chain_graph.specs.Refusals.{Refuses}
-use Rattle.closure.specs.declared.modes.Mode.TheVariants.{Hard}
+use Rattle.rewriting.specs.declared.rows.Mode.TheVariants.{Hard}
 use Rattle.closure.specs.Checked.{IsRankedWithPolicy}
 use Rattle.closure.specs.Rewriting.{greatest_depth}
 use Rattle.closure.specs.Sides.{ClosesTo}

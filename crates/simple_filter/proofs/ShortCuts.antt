@@ -48,6 +48,7 @@ module _ (W : ℕ) where
   cut_one (Prim_.DstPorts ports) c = kept_one (record c { proto = set_and 8 c.proto (single ports.proto); dport = set_and 16 c.dport ports.set })
   cut_one (Prim_.Flags mask comp) c = kept_one (record c { proto = set_and 8 c.proto (single 6); flags = bit_and c.flags (flags_where mask comp 64) })
   cut_one (Prim_.State states) c = kept_one (record c { state = bit_and c.state states })
+  cut_one (Prim_.IcmpKind m) c = kept_one (record c { proto = set_and 8 c.proto (single m.proto); icmp = set_and 8 c.icmp (single m.kind) })
   cut_one Prim_.Always c = kept_one c
 
   each_one : (f : Cube W → List (Cube W)) → ((c : Cube W) → length (f c) ≤ 1) → (l : List (Cube W)) → length (each_piece f l) ≤ length l

@@ -31,6 +31,7 @@ fn has_sets<const W: u32>(cube: &Cube<W>)
     let _ = cube.proto.ranges();
     let _ = cube.sport.ranges();
     let _ = cube.dport.ranges();
+    let _ = cube.icmp.ranges();
 }
 
 /// Appends a rule with this verdict for each of the cubes.

@@ -3,8 +3,8 @@ use Rattle.std.specs.Prelude.{ℕ, ◌≡◌, ◌≤◌, List, length, Some, sli
 use Rattle.fw_rule.specs.declared.rule.Dump.{Dump}
 use Rattle.chain_graph.specs.declared.graph.Ranked.{Ranked}
 use Rattle.closure.specs.declared.counting.Counts.{Counts}
-use Rattle.closure.specs.declared.modes.Mode.{Mode}
-use Rattle.closure.specs.declared.modes.Mode.TheVariants.{Hard, Soft}
+use Rattle.rewriting.specs.declared.rows.Mode.{Mode}
+use Rattle.rewriting.specs.declared.rows.Mode.TheVariants.{Hard, Soft}
 use Rattle.fw_rule.specs.declared.side.Side.{Side}
 use Rattle.closure.specs.inner.Counts.{capped, entry}
 use Rattle.closure.specs.Rewriting.{Tree, nodes, tree, greatest_depth}

@@ -3,11 +3,11 @@ use Rattle.std.specs.Prelude.{ℕ, zero, suc, ◌+◌, ◌-◌, ◌^◌, min, Li
 use Rattle.fw_rule.specs.declared.rule.Rule.{Rule}
 use Rattle.fw_rule.specs.Matching.{doubt_in}
 use Rattle.closure.specs.declared.counting.Counts.{Counts}
-use Rattle.closure.specs.declared.modes.Mode.{Mode}
-use Rattle.closure.specs.declared.modes.Mode.TheVariants.{Hard, Soft}
-use Rattle.closure.specs.declared.modes.Row.{Row}
+use Rattle.rewriting.specs.declared.rows.Mode.{Mode}
+use Rattle.rewriting.specs.declared.rows.Mode.TheVariants.{Hard, Soft}
+use Rattle.rewriting.specs.declared.rows.Row.{Row}
 use Rattle.fw_rule.specs.declared.side.Side.{Side}
-use Rattle.closure.specs.Rewriting.{kind, row_of}
+use Rattle.rewriting.specs.Table.{kind, row_of}
 
 -- a sum stops at 2^64 - 1
 abbrev pub capped : ℕ → ℕ

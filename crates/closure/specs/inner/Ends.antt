@@ -4,9 +4,9 @@ use Rattle.fw_rule.specs.declared.rule.Rule.{Rule}
 use Rattle.fw_rule.specs.declared.rule.Dump.{Dump}
 use Rattle.fw_rule.specs.declared.side.Side.{Side}
 use Rattle.closure.specs.declared.ends.Ends.{Ends}
-use Rattle.closure.specs.declared.modes.Mode.{Mode}
-use Rattle.closure.specs.declared.modes.Mode.TheVariants.{Hard, Soft}
-use Rattle.closure.specs.declared.modes.Row.{Row}
+use Rattle.rewriting.specs.declared.rows.Mode.{Mode}
+use Rattle.rewriting.specs.declared.rows.Mode.TheVariants.{Hard, Soft}
+use Rattle.rewriting.specs.declared.rows.Row.{Row}
 use Rattle.closure.specs.Rewriting.{Tree, Done, Decide, Leave, Block, items, rules_of, tree}
 
 -- no verdict stands in the tree, at any depth

@@ -2,8 +2,6 @@
 use Rattle.std.specs.Prelude.{ℕ, ◌-◌, ◌∷◌, drop}
 use Rattle.fw_rule.specs.declared.rule.Rule.{Rule}
 use Rattle.fw_rule.specs.declared.rule.Dump.{Dump}
-use Rattle.closure.specs.declared.modes.Mode.{Mode}
-use Rattle.closure.specs.declared.modes.Mode.TheVariants.{Hard, Soft}
 use Rattle.closure.specs.declared.modes.RulesFrom.{RulesFrom}
 use Rattle.fw_rule.specs.declared.side.Side.{Side}
 use Rattle.closure.specs.Rewriting.{Tree, items, rules_of, tree}
@@ -15,8 +13,3 @@ items_from side dump r = items side (tree side dump (r.depth - 1)) (drop r.first
 -- the items of a rule and of these behind it
 abbrev pub items_with : {P : Type 0} → Side → Dump P → Rule P → RulesFrom → Tree P
 items_with side dump rule r = items side (tree side dump (r.depth - 1)) (rule ∷ drop r.first (rules_of dump r.chain)) r.mode
-
--- how many enclosing blocks a bad verdict leaves beyond its own in a soft mode. In Hard it leaves none: it is a verdict
-abbrev pub level : Mode → ℕ
-level Hard = 0
-level (Soft j) = j

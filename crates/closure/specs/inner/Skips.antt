@@ -3,8 +3,8 @@ use Rattle.std.specs.Prelude.{ℕ, zero, suc, ◌≡◌, ◌≤◌, ◌+◌, ◌
 use Rattle.fw_rule.specs.declared.rule.Rule.{Rule}
 use Rattle.fw_rule.specs.declared.rule.Dump.{Dump}
 use Rattle.fw_rule.specs.declared.side.Side.{Side}
-use Rattle.closure.specs.declared.modes.Mode.{Mode}
-use Rattle.closure.specs.declared.modes.Mode.TheVariants.{Hard, Soft}
+use Rattle.rewriting.specs.declared.rows.Mode.{Mode}
+use Rattle.rewriting.specs.declared.rows.Mode.TheVariants.{Hard, Soft}
 use Rattle.closure.specs.declared.skips.Skips.{Skips}
 use Rattle.closure.specs.Rewriting.{Tree, items, rules_of}
 

@@ -1,5 +1,5 @@
 -- What the parts of the search answer.
-use Rattle.std.specs.Prelude.{ℕ, ◌≡◌, ◌<◌, false, true, List, Option, None, Some, length}
+use Rattle.std.specs.Prelude.{ℕ, ◌≡◌, ◌<◌, false, List, Option, None, Some, length}
 use Rattle.limits.specs.declared.TheConstants.{MOST_REGIONS}
 use Rattle.primitives.specs.declared.prim.Packet.{Packet}
 use Rattle.primitives.specs.Holds.{IsValid}

@@ -1,6 +1,5 @@
 -- Cubes that have nothing in common in one dimension, as their sets and patterns tell.
 use Rattle.std.specs.Prelude.{ℕ, ◌≡◌, Bool, true, false, ◌&&◌, ◌||◌, if◌then◌else◌}
-use Rattle.std.specs.List.{AllByRecursion}
 use Rattle.interval_set.specs.Numbers.{has}
 use Rattle.name_set.specs.declared.set.NameSet.{NameSet}
 use Rattle.name_set.specs.Names.{narrower, some_covers}
@@ -29,3 +28,4 @@ pub data Misses {W : ℕ} (a b : Cube W) : Type 0 where
   DestinationPorts : NoneOfBoth (has a.dport) (has b.dport) → Misses a b
   Flags : NoneOfBoth (has_bit a.flags) (has_bit b.flags) → Misses a b
   States : NoneOfBoth (has_bit a.state) (has_bit b.state) → Misses a b
+  Types : NoneOfBoth (has a.icmp) (has b.icmp) → Misses a b

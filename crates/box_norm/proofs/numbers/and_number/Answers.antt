@@ -1,8 +1,7 @@
-use Rattle.std.proofs.Common.{◌≡◌, ◌∙◌, false, true, ap, arith, sym}
+use Rattle.std.proofs.Common.{◌≡◌, ◌∙◌, false, true, arith}
 use Rattle.std.proofs.lemmas.Bool.Decides.{nat_tests}
 use Rattle.std.proofs.lemmas.Result.{IfOk-weaker}
 use Rattle.interval_set.specs.Numbers.{has}
-use Rattle.interval_set.specs.Spelling.{set_and}
 use Rattle.box_norm.specs.Pieces.{single}
 use Rattle.box_norm.proofs.RegularLaws.{and_none, and_one}
 use Rattle.box_norm.proofs.numbers.and_number.Goals as goal

@@ -1,7 +1,5 @@
-use Rattle.std.proofs.Common.{ap, subst, sym, ◌∙◌, ◌&&◌, not}
+use Rattle.std.proofs.Common.{ap, subst, sym, ◌∙◌}
 use Rattle.std.specs.List.{AllByRecursion}
-use Rattle.match_expr.specs.Meaning.{eval_of}
-use Rattle.primitives.specs.Holds.{holds_of}
 use Rattle.box_norm.specs.Cubes.{any_holds}
 use Rattle.box_norm.specs.Cuts.{cuts_by}
 use Rattle.box_norm.specs.Disjoint.{AreDisjoint}

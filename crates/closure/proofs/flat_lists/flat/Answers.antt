@@ -1,6 +1,6 @@
 use Rattle.std.proofs.Common.{sym, subst, List}
 use Rattle.match_expr.specs.declared.expr.FlatRule.{FlatRule}
-use Rattle.closure.specs.declared.modes.Mode.TheVariants.{Hard}
+use Rattle.rewriting.specs.declared.rows.Mode.TheVariants.{Hard}
 use Rattle.fw_rule.specs.Walk.{Here}
 use Rattle.closure.specs.Rewriting.{greatest_depth}
 use Rattle.closure.specs.Sides.{ClosesTo}

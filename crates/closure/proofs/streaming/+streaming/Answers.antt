@@ -2,9 +2,10 @@ use Rattle.std.proofs.Common.{◌+◌, List, length, refl, sym, ◌∙◌, ap, a
 use Rattle.fw_rule.proofs.Turns.{chain_inside, went}
 use Rattle.match_expr.specs.declared.expr.Expr.TheVariants.{All}
 use Rattle.fw_rule.specs.Matching.{doubt_in}
-use Rattle.closure.specs.declared.modes.Mode.TheVariants.{Soft}
-use Rattle.closure.specs.declared.modes.Row.{Row}
-use Rattle.closure.specs.Rewriting.{kind, to_the_end}
+use Rattle.rewriting.specs.declared.rows.Mode.TheVariants.{Soft}
+use Rattle.rewriting.specs.declared.rows.Row.{Row}
+use Rattle.closure.specs.Rewriting.{to_the_end}
+use Rattle.rewriting.specs.Table.{kind}
 use Rattle.closure.specs.inner.Items.{items_from}
 use Rattle.closure.proofs.RowLemmas.{row_is}
 use Rattle.closure.proofs.FlatLemmas.{hardness_small, within_some, led, stands_here, rule_here, rules_over}

@@ -1,6 +1,6 @@
 use Rattle.std.proofs.Common.{◌∙◌, ◌++◌, Bool, List, subst, sym, arith}
 use Rattle.fw_rule.specs.Walk.{Here}
-use Rattle.closure.specs.declared.modes.Mode.TheVariants.{Hard}
+use Rattle.rewriting.specs.declared.rows.Mode.TheVariants.{Hard}
 use Rattle.closure.specs.Rewriting.{Tree, chain_tree}
 use Rattle.closure.specs.Stream.{stream}
 use Rattle.closure.proofs.FlatLemmas.{tree_called, within_some}

@@ -1,9 +1,10 @@
 use Rattle.std.proofs.Common.{length, refl, sym, ◌∙◌, ap, arith, rules}
 use Rattle.fw_rule.proofs.Turns.{chain_inside}
 use Rattle.fw_rule.specs.Matching.{known_of, doubt_in}
-use Rattle.closure.specs.declared.modes.Mode.TheVariants.{Soft}
-use Rattle.closure.specs.declared.modes.Row.{Row}
-use Rattle.closure.specs.Rewriting.{Leave, kind, to_the_end}
+use Rattle.rewriting.specs.declared.rows.Mode.TheVariants.{Soft}
+use Rattle.rewriting.specs.declared.rows.Row.{Row}
+use Rattle.closure.specs.Rewriting.{Leave, to_the_end}
+use Rattle.rewriting.specs.Table.{kind}
 use Rattle.closure.specs.inner.Items.{items_from}
 use Rattle.closure.specs.inner.Moves.{then_leave}
 use Rattle.closure.proofs.RowLemmas.{row_is}

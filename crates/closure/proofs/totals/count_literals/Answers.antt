@@ -1,6 +1,6 @@
 use Rattle.std.proofs.Common.{◌∙◌, ap, sym, arith}
 use Rattle.fw_rule.specs.Walk.{Here}
-use Rattle.closure.specs.declared.modes.Mode.TheVariants.{Hard}
+use Rattle.rewriting.specs.declared.rows.Mode.TheVariants.{Hard}
 use Rattle.closure.specs.inner.Counts.{capped}
 use Rattle.closure.specs.Rewriting.{Tree, chain_tree}
 use Rattle.closure.specs.Stream.{stream}

@@ -88,6 +88,19 @@ returns-in-Comment-clause-none g c =
     let w = of_said {W = g.row.W} g.F.Family.Reads g.groups c.args.kind Kind.Comment (texts (words_of c.args.arguments.now)) c.args.negated e c.in-Comment.is says in
     none w.0 w.1.0 w.1.1)
 
+pub returns-in-IcmpType-clause-some : goal.returns-in-IcmpType-clause-some
+returns-in-IcmpType-clause-some g c =
+    if_some c.icmp_type.result _ _ c.icmp_type.ensures.some
+    (λ e is. said_of {W = g.row.W} g.F.Family.Reads g.groups c.args.kind (Kind.IcmpType c.in-IcmpType.messages)
+    (texts (words_of c.args.arguments.now)) c.args.negated e c.in-IcmpType.is is)
+
+pub returns-in-IcmpType-clause-none : goal.returns-in-IcmpType-clause-none
+returns-in-IcmpType-clause-none g c =
+    if_none c.icmp_type.result _ _ c.icmp_type.ensures.none (λ none e says.
+    let w = of_said {W = g.row.W} g.F.Family.Reads g.groups c.args.kind (Kind.IcmpType c.in-IcmpType.messages)
+    (texts (words_of c.args.arguments.now)) c.args.negated e c.in-IcmpType.is says in
+    none w.0 w.1 w.2.0 w.2.1 w.2.2)
+
 pub ports-requires : goal.ports-requires
 ports-requires g c = (search rules, line_ports g.groups c.args.protocol c.requires.1.1.1.1)
 

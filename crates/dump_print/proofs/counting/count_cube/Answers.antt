@@ -3,7 +3,7 @@ use Rattle.std.proofs.lemmas.List.{length-map}
 use Rattle.dump_print.specs.CubeLines.{axes_of}
 use Rattle.dump_print.specs.Flags.{cubes_of}
 use Rattle.dump_print.specs.Ports.{port_choices, ports_of}
-use Rattle.dump_print.specs.Protocols.{protocols_of}
+use Rattle.dump_print.specs.Numbers.{protocols_of}
 use Rattle.dump_print.proofs.CountLemmas.{choices_count, product_of}
 use Rattle.dump_print.proofs.counting.count_cube.Goals as goal
 

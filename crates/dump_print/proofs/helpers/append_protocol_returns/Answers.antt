@@ -2,7 +2,7 @@ use Rattle.std.proofs.Common.{arith, codes, get_or}
 use Rattle.dump_grammar.specs.Lines.{bare}
 use Rattle.dump_print.specs.Helpers.{return_line}
 use Rattle.dump_print.specs.Parts.{option_words}
-use Rattle.dump_print.specs.Protocols.{protocol_text}
+use Rattle.dump_print.specs.Numbers.{protocol_text}
 use Rattle.dump_print.proofs.LineLemmas.{line_more, rule_line}
 use Rattle.dump_print.proofs.helpers.append_protocol_returns.Goals as goal
 

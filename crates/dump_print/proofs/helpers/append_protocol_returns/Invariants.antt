@@ -1,7 +1,7 @@
 use Rattle.std.proofs.Common.{◌≡◌, ◌++◌, codes, map, take}
 use Rattle.dump_grammar.specs.Lines.{bare}
 use Rattle.dump_print.specs.Helpers.{return_line}
-use Rattle.dump_print.specs.Protocols.{protocol_text}
+use Rattle.dump_print.specs.Numbers.{protocol_text}
 use Rattle.dump_print.specs.Spelling.{lines_text}
 use Rattle.dump_print.proofs.helpers.append_protocol_returns.Given as goal
 

@@ -1,5 +1,5 @@
 use Rattle.std.proofs.Common.{◌≡◌, ◌∙◌, ◌++◌, ◌+◌, ◌-◌, ap, arith}
-use Rattle.dump_print.specs.Protocols.{numbers_from}
+use Rattle.dump_print.specs.Numbers.{numbers_from}
 use Rattle.dump_print.proofs.HelperLemmas.{numbers_more, numbers_none}
 use Rattle.dump_print.proofs.helpers.push_numbers.Goals as goal
 

@@ -1,5 +1,5 @@
 use Rattle.std.proofs.Common.{◌≡◌, ◌++◌, ◌-◌}
-use Rattle.dump_print.specs.Protocols.{numbers_from}
+use Rattle.dump_print.specs.Numbers.{numbers_from}
 use Rattle.dump_print.proofs.helpers.push_numbers.Given as goal
 
 abbrev pub invariant-loop-number : goal.invariant-loop-number

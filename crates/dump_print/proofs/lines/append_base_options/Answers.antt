@@ -19,5 +19,5 @@ returns g c =
     (spaced_grown destination (in_name ++ (out_name ++ protocols)) _ _ _ c.in_ok-append_net-2.ensures
     (spaced_grown in_name (out_name ++ protocols) _ _ _ c.in_ok-append_names.ensures
     (spaced_grown out_name protocols _ _ _ c.in_ok-append_names-2.ensures h)))
-    ∙ ap (λ p. c.args.out.now.items ++ spaced (source ++ (destination ++ (in_name ++ (out_name ++ protocol_words p))))) c.requires.frame)
+    ∙ ap (λ p. c.args.out.now.items ++ spaced (source ++ (destination ++ (in_name ++ (out_name ++ protocol_words p))))) c.requires.frame.0)
     c.append_protocols.ensures

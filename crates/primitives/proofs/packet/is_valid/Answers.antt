@@ -16,6 +16,7 @@ returns g c = (
     dport = omega arith;
     flags = c.if-p-ge64.false;
     state = grind (arith, nat_tests, is);
+    icmp = omega arith;
   },
   λ v. let small = v.state in grind (arith, nat_tests, small),
 )

@@ -13,6 +13,7 @@ returns g c = (
     dport = c.in-Some-least_number-5.ensures.least;
     flags = c.in-Some-least_bit.ensures.least;
     state = c.in-Some-least_bit-2.ensures.least;
+    icmp = c.in-Some-least_number-6.ensures.least;
   },
   record {
     in_name = (rw c.in-Some.is at c.in_ok-in_name.ensures).0;
@@ -24,5 +25,6 @@ returns g c = (
     dport = c.in-Some-least_number-5.ensures.below;
     flags = c.in-Some-least_bit.ensures.below;
     state = low_bit c.args.cube.now.state c.in-Some-least_bit-2.state c.requires c.in-Some-least_bit-2.ensures.least.0;
+    icmp = c.in-Some-least_number-6.ensures.below;
   },
 )

@@ -13,4 +13,5 @@ returns-clause-ok c = record {
   dport = c.in_ok-port-2.ensures.ok;
   flags = c.in_ok-flags.ensures.ok;
   state = c.in_ok-state.ensures.ok;
+  icmp = c.in_ok-icmp_type.ensures.ok;
 }

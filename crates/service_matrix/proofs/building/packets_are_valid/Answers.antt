@@ -15,4 +15,5 @@ returns c W s d hs hd =
       dport = first.dport;
       flags = first.flags;
       state = first.state;
+      icmp = first.icmp;
     }

@@ -21,4 +21,5 @@ returns-clause-valid c W hs hd = record {
   dport = omega arith;
   flags = few_flags _ c.opening_flags.result c.opening_flags.ensures;
   state = omega arith;
+  icmp = omega arith;
 }

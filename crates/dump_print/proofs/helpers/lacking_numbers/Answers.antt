@@ -1,7 +1,7 @@
 use Rattle.std.proofs.Common.{arith, subst, sym}
 use Rattle.interval_set.specs.Numbers.{IsSet}
 use Rattle.dump_print.proofs.LineLemmas.{range_at}
-use Rattle.dump_print.proofs.helpers.lacking_protocols.Goals as goal
+use Rattle.dump_print.proofs.helpers.lacking_numbers.Goals as goal
 
 pub push_numbers-requires-clause-ordered : goal.push_numbers-requires-clause-ordered
 push_numbers-requires-clause-ordered c =
