@@ -15,6 +15,8 @@ import termios
 import threading
 
 import cases
+from pieces import cut
+from pieces import run as run_over
 
 MOST = 16_777_216
 TEXT = cases.forward("-s 10.0.0.0/8 -j ACCEPT").encode()
@@ -56,14 +58,15 @@ def cut_texts():
 
 
 def pieces():
-    """A text that comes in pieces is the same text."""
-    for words, text, wanted in [(["upper"], TEXT, TEXT), (["upper"], cases.ROUTER.encode(), cases.ROUTER_UPPER.encode())]:
+    """A text that comes in pieces is the same text, and has the same fault."""
+    for text, wanted in [(TEXT, (0, TEXT, b"")), (cases.ROUTER.encode(), (0, cases.ROUTER_UPPER.encode(), b"")), (TEXT[:-1], (0, TEXT, b"")),
+                         (REFUSED, (5, b"", REFUSAL)), (b"\n" * 9 + TEXT * 3, (5, b"", b"fffuu: line 14: malformed\n")),
+                         (TEXT[:-7], (5, b"", b"fffuu: line 4: malformed\n")), (b"*nat\nCOMMIT\n", (6, b"", b"fffuu: no filter table\n"))]:
         for size in (1, 2, 7, 4096):
-            child = subprocess.Popen([PROGRAM, *words], stdin=subprocess.PIPE, stdout=subprocess.PIPE, stderr=subprocess.PIPE, bufsize=0)
-            for at in range(0, len(text), size):
-                child.stdin.write(text[at:at + size])
-            out, err = child.communicate(timeout=120)
-            check(f"pieces of {size} bytes", (child.returncode, out, err), (0, wanted, b""))
+            check(f"{text[:60]} in pieces of {size} bytes", run_over(PROGRAM, ["upper"], cut(text, size)), wanted)
+    for name, (words, text, (status, out, err)) in cases.CASES.items():
+        for size in (1, 2, 7, 4096) if len(text) < 6000 else (7, 4096):
+            check(f"{name}, in pieces of {size} bytes", run_over(PROGRAM, words.split(), cut(text.encode(), size)), (status, out.encode(), err.encode()))
 
 
 def feed(end, piece):
@@ -79,7 +82,7 @@ def endless():
     """Input that never ends is too long."""
     with open("/dev/zero", "rb") as zero:
         check("/dev/zero", run(["check"], stdin=zero), (4, b"", TOO_LONG))
-    for name, piece in [("zeros", bytes(65_536)), ("line feeds", b"\n" * 4096), ("rules", b"-A FORWARD -j ACCEPT\n" * 100)]:
+    for name, piece in [("zeros", bytes(65_536)), ("line feeds", b"\n" * 4096), ("rules outside a table", b"-A FORWARD -j ACCEPT\n" * 100)]:
         reading, writing = os.pipe()
         feeder = threading.Thread(target=feed, args=(writing, piece))
         feeder.start()
@@ -93,7 +96,7 @@ def broken_inputs():
     """A read that fails ends the run, at the first read and after the whole text."""
     check("a folder as standard input", run(["upper"], stdin=os.open("/", os.O_RDONLY)), (2, b"", b"fffuu: read failed\n"))
     check("a closed standard input", run(["upper"], stdin=subprocess.DEVNULL, preexec_fn=closed(0)), (2, b"", b"fffuu: read failed\n"))
-    for name, sent in [("nothing", b""), ("half of the text", TEXT[:30]), ("the whole text", TEXT)]:
+    for name, sent in [("nothing", b""), ("half of the text", TEXT[:30]), ("the whole text", TEXT), ("a line that is refused", REFUSED)]:
         here, there = socket.socketpair()
         there.send(b"x")
         here.send(sent)

@@ -1,5 +1,6 @@
 #!/usr/bin/env python3
-"""Compares `check` of the built program with the plain reader in reader.py, on random texts, most of them nearly right.
+"""Compares `check` of the built program with the plain reader in reader.py, on random texts, most of them nearly right. Every other
+text comes as a whole, and every other one in pieces of random sizes, some of them byte by byte.
 
     python3 tests/texts.py PROGRAM COUNT START
 
@@ -9,6 +10,7 @@ import random
 import subprocess
 import sys
 
+import pieces
 import reader
 
 CHAINS = ["FORWARD", "INPUT", "A", "B", "C", "hex:"]
@@ -83,21 +85,29 @@ def text(rng, family):
     return whole.encode()
 
 
+def ending(program, words, given, rng):
+    """How a run over the text ends: its status, its output and its line."""
+    if rng is None:
+        done = subprocess.run([program, *words], input=given, capture_output=True)
+        return done.returncode, done.stdout, done.stderr
+    return pieces.run(program, words, pieces.cut_anywhere(rng, given, rng.choice([1, 2, 7, 40, 400])))
+
+
 def main(program, count, start):
-    rng = random.Random(start)
+    rng, cuts = random.Random(start), random.Random(start)
     failed, statuses = 0, {}
-    for _ in range(count):
+    for number in range(count):
         family = rng.choice([4, 4, 6])
         given = text(rng, family)
         asked = rng.choice(["FORWARD"] * 6 + ["INPUT", "A", "hex:", "OUTPUT", "", "hex:1"])
         status, line = reader.check(given, asked.encode(), family)
         statuses[status] = statuses.get(status, 0) + 1
-        done = subprocess.run([program, "check", "--chain", asked, "--family", str(family)], input=given, capture_output=True)
+        got = ending(program, ["check", "--chain", asked, "--family", str(family)], given, cuts if number % 2 else None)
         wanted = (status, line.encode(), b"") if status == 0 else (status, b"", line.encode())
-        if (done.returncode, done.stdout, done.stderr) != wanted:
+        if got != wanted:
             failed += 1
             if failed <= 5:
-                print(f"{asked} {family} {given}: got {(done.returncode, done.stdout, done.stderr)}, wanted {wanted}")
+                print(f"{asked} {family} {given}: got {got}, wanted {wanted}")
     print("statuses", dict(sorted(statuses.items())))
     print(f"{count - failed} passed, {failed} failed")
     return 1 if failed else 0

@@ -1,5 +1,7 @@
 pub mod Options
 pub mod DumpLemmas
+pub mod Feeding
+pub mod Texts
 pub mod SizeLemmas
 pub mod Refusals
 pub mod Limits

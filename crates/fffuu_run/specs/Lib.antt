@@ -11,3 +11,4 @@ pub mod Spoofing
 pub mod Lines
 pub mod Answers
 pub mod Runs
+pub mod inner

@@ -3,9 +3,11 @@ ghost use Rattle.interval_set.specs.Numbers.{IsWidth};
 ghost use Rattle.limits.specs.declared.TheConstants.{MOST_BYTES};
 ghost use Rattle.request.specs.Requests.{HasBounds, width_of};
 ghost use Rattle.fffuu_run.specs.Answers.{IsAnswer, IsOutput, IsRefusedAs, RefusesMode};
+ghost use Rattle.fffuu_run.specs.inner.Readings.{HoldsOfTexts, WasRead};
 
 use crate::Status;
 use crate::checking::check_text;
+use crate::dumps::{DumpResult, read_text};
 use crate::explaining::explain_text;
 use crate::filtering::filter_text;
 use crate::loading::load_summary;
@@ -16,28 +18,30 @@ use fw_rule::Side;
 use request::{Mode, Request};
 use std::alloc::Global;
 
-// The output of a mode over the addresses of a family.
-fn output<F: Family<W>, const W: u32>(
+/// The output of a mode over the addresses of a family, for the dump that was read. A load doesn't look at it.
+pub fn output<F: Family<W>, const W: u32>(
     alloc: Global,
     request: &Request,
-    text: &[u8],
+    read: DumpResult<W>,
 ) -> Result<Vec<u8>, Status>
     requires width { IsWidth W }
     requires family { width_of request.now.six ≡ W }
     requires bounds { HasBounds request.now.six request.now.mode }
-    requires size { length text.now ≤ MOST_BYTES }
-    ensures ok { IfOk result (λ written. IsOutput W F.Reads F.text_of request.now.mode request.now.chain text.now written.items) }
-    ensures refused { IfErr result (λ s. (s ≡ Status.Memory) ⊎ RefusesMode W F.Reads F.text_of request.now.mode request.now.chain text.now s) }
+    requires read { WasRead W F.Reads read }
+    ensures ok { IfOk result (λ written. HoldsOfTexts W F.Reads read.entry
+        (λ text. IsOutput W F.Reads F.text_of request.now.mode request.now.chain text written.items)) }
+    ensures refused { IfErr result (λ s. (s ≡ Status.Memory) ⊎ HoldsOfTexts W F.Reads read.entry
+        (λ text. RefusesMode W F.Reads F.text_of request.now.mode request.now.chain text s)) }
 {
     let name = request.chain.as_slice();
     match &request.mode {
-        Mode::Check => check_text::<F, W>(alloc, name, text),
-        Mode::Upper => filter_text::<F, W>(alloc, Side::Upper, name, text),
-        Mode::Lower => filter_text::<F, W>(alloc, Side::Lower, name, text),
-        Mode::Matrix { service, side } => matrix_text::<F, W>(alloc, *side, service, name, text),
-        Mode::Spoof(claims) => spoof_text::<F, W>(alloc, claims.as_slice(), name, text),
+        Mode::Check => check_text::<F, W>(alloc, name, read),
+        Mode::Upper => filter_text::<F, W>(alloc, Side::Upper, name, read),
+        Mode::Lower => filter_text::<F, W>(alloc, Side::Lower, name, read),
+        Mode::Matrix { service, side } => matrix_text::<F, W>(alloc, *side, service, name, read),
+        Mode::Spoof(claims) => spoof_text::<F, W>(alloc, claims.as_slice(), name, read),
         Mode::Load(n) => load_summary(alloc, name, *n),
-        Mode::Explain(packet) => explain_text::<F, W>(alloc, name, text, packet),
+        Mode::Explain(packet) => explain_text::<F, W>(alloc, name, read, packet),
     }
 }
 
@@ -53,8 +57,8 @@ pub fn answer(alloc: Global, request: &Request, text: &[u8]) -> Result<Vec<u8>, 
     ensures refused { IfErr result (λ s. (s ≡ Status.Memory) ⊎ IsRefusedAs request.now text.now s) }
 {
     if request.six {
-        output::<V6, 128>(alloc, request, text)
+        output::<V6, 128>(alloc, request, read_text::<V6, 128>(alloc, text))
     } else {
-        output::<V4, 32>(alloc, request, text)
+        output::<V4, 32>(alloc, request, read_text::<V4, 32>(alloc, text))
     }
 }

@@ -1,11 +1,9 @@
-ghost use Rattle.std.specs.Prelude.{◌≡◌, ◌≤◌, ◌<◌, ◌⊎◌, ℕ, IfOk, IfErr, Some, length};
-ghost use Rattle.chain_graph.specs.Paths.{CallsNameChains};
-ghost use Rattle.dump_grammar.specs.Reads.{IsDump};
-ghost use Rattle.dump_read.specs.Answers.{IsPrintableDump};
-ghost use Rattle.fw_rule.specs.Calls.{HasRoom};
+ghost use Rattle.std.specs.Prelude.{◌≡◌, ◌≤◌, ◌<◌, Err, IfErr, IfOk, Ok, length};
+ghost use Rattle.dump_read.specs.declared.fault.ReadFault.{ReadFault};
 ghost use Rattle.interval_set.specs.Numbers.{IsWidth};
 ghost use Rattle.limits.specs.declared.TheConstants.{MOST_BYTES};
-ghost use Rattle.fffuu_run.specs.Questions.{IsNameOf, RefusesText, asked_chain, is_asked};
+ghost use Rattle.fffuu_run.specs.Questions.{IsNameOf, asked_chain, is_asked};
+ghost use Rattle.fffuu_run.specs.inner.Readings.{IsReadOf, status_of};
 
 use crate::Status;
 use addr_text::Family;
@@ -15,20 +13,24 @@ use match_expr::{Bytes, Primitive};
 use primitives::Prim_;
 use std::alloc::{AllocError, Global};
 
-/// The dump that a text is.
-pub fn read<F: Family<W>, const W: u32>(
-    alloc: Global,
-    text: &[u8],
-) -> Result<Dump<Prim_<W>>, Status>
+/// What a text was read as.
+pub type DumpResult<const W: u32> = Result<Dump<Prim_<W>>, ReadFault>;
+
+/// Reads a whole text.
+pub fn read_text<F: Family<W>, const W: u32>(alloc: Global, text: &[u8]) -> DumpResult<W>
     requires width { IsWidth W }
     requires size { length text.now ≤ MOST_BYTES }
-    ensures reads { IfOk result (λ dump. IsDump W F.Reads text.now dump) }
-    ensures room { IfOk result HasRoom }
-    ensures named { IfOk result CallsNameChains }
-    ensures printable { IfOk result IsPrintableDump }
-    ensures refused { IfErr result (λ s. (s ≡ Status.Memory) ⊎ RefusesText W F.Reads text.now s) }
+    ensures { IsReadOf W F.Reads text.now result }
 {
-    match read_dump::<F, W>(alloc, text) {
+    read_dump::<F, W>(alloc, text)
+}
+
+/// The dump that was read, or the status of its fault.
+pub fn dump_or_status<const W: u32>(read: DumpResult<W>) -> Result<Dump<Prim_<W>>, Status>
+    ensures ok { IfOk result (λ dump. read.entry ≡ Ok dump) }
+    ensures fault { IfErr result (λ s. (fault : ReadFault) × ((read.entry ≡ Err fault) × (s ≡ status_of fault))) }
+{
+    match read {
         Ok(dump) => Ok(dump),
         Err(ReadFault::Malformed { line }) => Err(Status::Malformed { line }),
         Err(ReadFault::NoFilter) => Err(Status::NoFilter),

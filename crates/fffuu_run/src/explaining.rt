@@ -1,14 +1,15 @@
-ghost use Rattle.std.specs.Prelude.{◌≡◌, ◌<◌, ◌≤◌, ◌⊎◌, IfErr, OnOk, length, ◌++◌, ◌∷◌, [], IfOk, codes, decimal};
+ghost use Rattle.std.specs.Prelude.{◌≡◌, ◌<◌, ◌⊎◌, IfErr, OnOk, length, ◌++◌, ◌∷◌, [], IfOk, codes, decimal};
 ghost use Rattle.fw_rule.specs.Walk.{HasRoom};
 ghost use Rattle.chain_graph.specs.Paths.{CallsNameChains};
 ghost use Rattle.closure.specs.Checked.{HasPolicy};
 ghost use Rattle.interval_set.specs.Numbers.{IsWidth};
-ghost use Rattle.limits.specs.declared.TheConstants.{MOST_BYTES};
 ghost use Rattle.fffuu_run.specs.Explanations.{Explained, Explanations, IsExplanationOver, RefusesExplanation, both_texts, explanation_text, place_lines};
 ghost use Rattle.fffuu_run.specs.Questions.{Comes, IsWithin};
+ghost use Rattle.fffuu_run.specs.inner.Readings.{HoldsOfTexts, WasRead};
 
 use crate::Status;
 use crate::checking::checked;
+use crate::dumps::DumpResult;
 use crate::questions::{AskedChain, question, told};
 use addr_text::Family;
 use explain::{Explain, ExplainFault, explain};
@@ -99,19 +100,21 @@ fn explanations<P: Primitive>(
     }
 }
 
-/// Explains a packet in the chain of this name of a text: how it is accepted and how it is dropped.
+/// Explains a packet in the chain of this name of the dump that was read: how it is accepted and how it is dropped.
 pub fn explain_text<F: Family<W>, const W: u32>(
     alloc: Global,
     name: &[u8],
-    text: &[u8],
+    read: DumpResult<W>,
     packet: &Packet,
 ) -> Result<Vec<u8>, Status>
     requires width { IsWidth W }
-    requires size { length text.now ≤ MOST_BYTES }
-    ensures ok { IfOk result (λ written. Explanations W F.Reads name.now text.now packet.now written.items) }
-    ensures refused { IfErr result (λ s. (s ≡ Status.Memory) ⊎ RefusesExplanation W F.Reads name.now text.now s) }
+    requires read { WasRead W F.Reads read }
+    ensures ok { IfOk result (λ written. HoldsOfTexts W F.Reads read.entry
+        (λ text. Explanations W F.Reads name.now text packet.now written.items)) }
+    ensures refused { IfErr result (λ s. (s ≡ Status.Memory)
+        ⊎ HoldsOfTexts W F.Reads read.entry (λ text. RefusesExplanation W F.Reads name.now text s)) }
 {
-    let AskedChain { dump, chain, .. } = question::<F, W>(alloc, name, text)?;
+    let AskedChain { dump, chain, .. } = question::<F, W>(name, read)?;
     match explanations(alloc, &dump, chain, packet) {
         Ok(written) => Ok(written),
         Err(refusal) => Err(told(alloc, &dump, refusal)),

@@ -1,4 +1,4 @@
-ghost use Rattle.std.specs.Prelude.{◌≡◌, ◌≤◌, ◌<◌, ◌⊎◌, ℕ, IfOk, IfErr, OnOk, Some, length, true};
+ghost use Rattle.std.specs.Prelude.{◌≡◌, ◌<◌, ◌⊎◌, IfOk, IfErr, OnOk, Some, length, true};
 ghost use Rattle.interval_set.specs.Numbers.{IsWidth};
 ghost use Rattle.chain_graph.specs.Paths.{CallsNameChains};
 ghost use Rattle.fw_rule.specs.Walk.{HasRoom, policy_of};
@@ -8,12 +8,13 @@ ghost use Rattle.box_norm.specs.Sets.{HasSets};
 ghost use Rattle.dump_read.specs.Answers.{IsPrintableDump};
 ghost use Rattle.dump_print.specs.Printed.{printed};
 ghost use Rattle.simple_filter.specs.Closed.{Accepts, NamesAreKnown};
-ghost use Rattle.limits.specs.declared.TheConstants.{MOST_BYTES};
 ghost use Rattle.fffuu_run.specs.Headline.{IsChain, IsFilterOf};
 ghost use Rattle.fffuu_run.specs.Filters.{Filters, IsFilterOver, IsPrintedFilter, RefusesFilter};
 ghost use Rattle.fffuu_run.specs.Questions.{Comes, IsWithin};
+ghost use Rattle.fffuu_run.specs.inner.Readings.{HoldsOfTexts, WasRead};
 
 use crate::Status;
+use crate::dumps::DumpResult;
 use crate::questions::{AskedChain, question, told};
 use addr_text::Family;
 use box_norm::SimpleRule;
@@ -77,23 +78,25 @@ fn filter_of<F: Family<W>, const W: u32>(
     }
 }
 
-/// The filter of one side of the chain of this name of a text.
+/// The filter of one side of the chain of this name of the dump that was read.
 pub fn filter_text<F: Family<W>, const W: u32>(
     alloc: Global,
     side: Side,
     name: &[u8],
-    text: &[u8],
+    read: DumpResult<W>,
 ) -> Result<Vec<u8>, Status>
     requires width { IsWidth W }
-    requires size { length text.now ≤ MOST_BYTES }
-    ensures ok { IfOk result (λ written. Filters W F.Reads F.text_of side name.now text.now written.items) }
-    ensures refused { IfErr result (λ s. (s ≡ Status.Memory) ⊎ RefusesFilter W F.Reads F.text_of side name.now text.now s) }
+    requires read { WasRead W F.Reads read }
+    ensures ok { IfOk result (λ written. HoldsOfTexts W F.Reads read.entry
+        (λ text. Filters W F.Reads F.text_of side name.now text written.items)) }
+    ensures refused { IfErr result (λ s. (s ≡ Status.Memory)
+        ⊎ HoldsOfTexts W F.Reads read.entry (λ text. RefusesFilter W F.Reads F.text_of side name.now text s)) }
 {
     let AskedChain {
         dump,
         chain,
         policy,
-    } = question::<F, W>(alloc, name, text)?;
+    } = question::<F, W>(name, read)?;
     match filter_of::<F, W>(alloc, &dump, chain, side, name, policy) {
         Ok(written) => Ok(written),
         Err(refusal) => Err(told(alloc, &dump, refusal)),

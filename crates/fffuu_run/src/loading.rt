@@ -10,6 +10,7 @@ ghost use Rattle.fffuu_run.specs.Loads.{IsLoadOver, Loads, RefusesLoad, load_sum
 ghost use Rattle.fffuu_run.specs.Questions.{Comes, IsWithin, order_of};
 
 use crate::Status;
+use crate::dumps::read_text;
 use crate::questions::{AskedChain, question, told};
 use addr_text::{Family, V4};
 use dump_print::{PrintFault, print};
@@ -163,7 +164,7 @@ pub fn load_summary(alloc: Global, name: &[u8], n: u32) -> Result<Vec<u8>, Statu
         dump,
         chain,
         policy,
-    } = question::<V4, 32>(alloc, name, &text)?;
+    } = question::<V4, 32>(name, read_text::<V4, 32>(alloc, &text))?;
     match summary_of::<V4, 32>(alloc, &dump, chain, name, policy, n) {
         Ok(written) => Ok(written),
         Err(refusal) => Err(told(alloc, &dump, refusal)),

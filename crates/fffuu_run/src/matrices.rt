@@ -1,13 +1,14 @@
-ghost use Rattle.std.specs.Prelude.{◌≡◌, ◌≤◌, ◌<◌, ◌^◌, ◌⊎◌, ◌++◌, ◌∷◌, [], IfOk, IfErr, OnOk, codes, decimal, length, map};
+ghost use Rattle.std.specs.Prelude.{◌≡◌, ◌<◌, ◌^◌, ◌⊎◌, ◌++◌, ◌∷◌, [], IfOk, IfErr, OnOk, codes, decimal, length, map};
 ghost use Rattle.chain_graph.specs.Paths.{CallsNameChains};
 ghost use Rattle.closure.specs.Checked.{HasPolicy};
 ghost use Rattle.fw_rule.specs.Calls.{HasRoom};
 ghost use Rattle.interval_set.specs.Numbers.{IsWidth};
-ghost use Rattle.limits.specs.declared.TheConstants.{MOST_BYTES};
 ghost use Rattle.fffuu_run.specs.Questions.{Comes, IsWithin};
 ghost use Rattle.fffuu_run.specs.Matrices.{IsMatrixOver, IsMatrixText, Matrices, RefusesMatrices, class_line, class_lines, edge_count, edge_line, edge_lines, matrix_text, row_lines};
+ghost use Rattle.fffuu_run.specs.inner.Readings.{HoldsOfTexts, WasRead};
 
 use crate::Status;
+use crate::dumps::DumpResult;
 use crate::questions::{AskedChain, question, told};
 use addr_text::Family;
 use fw_rule::{Dump, Side};
@@ -131,20 +132,22 @@ fn matrix_of<F: Family<W>, const W: u32>(
     Ok(text_of::<F, W>(alloc, &found)?)
 }
 
-/// The matrix of a service in the chain of this name of a text.
+/// The matrix of a service in the chain of this name of the dump that was read.
 pub fn matrix_text<F: Family<W>, const W: u32>(
     alloc: Global,
     side: Side,
     service: &Service,
     name: &[u8],
-    text: &[u8],
+    read: DumpResult<W>,
 ) -> Result<Vec<u8>, Status>
     requires width { IsWidth W }
-    requires size { length text.now ≤ MOST_BYTES }
-    ensures ok { IfOk result (λ written. Matrices W F.Reads F.text_of side service.now name.now text.now written.items) }
-    ensures refused { IfErr result (λ s. (s ≡ Status.Memory) ⊎ RefusesMatrices W F.Reads F.text_of side service.now name.now text.now s) }
+    requires read { WasRead W F.Reads read }
+    ensures ok { IfOk result (λ written. HoldsOfTexts W F.Reads read.entry
+        (λ text. Matrices W F.Reads F.text_of side service.now name.now text written.items)) }
+    ensures refused { IfErr result (λ s. (s ≡ Status.Memory)
+        ⊎ HoldsOfTexts W F.Reads read.entry (λ text. RefusesMatrices W F.Reads F.text_of side service.now name.now text s)) }
 {
-    let AskedChain { dump, chain, .. } = question::<F, W>(alloc, name, text)?;
+    let AskedChain { dump, chain, .. } = question::<F, W>(name, read)?;
     match matrix_of::<F, W>(alloc, &dump, chain, side, service) {
         Ok(written) => Ok(written),
         Err(refusal) => Err(told(alloc, &dump, refusal)),

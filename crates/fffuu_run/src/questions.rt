@@ -1,14 +1,13 @@
-ghost use Rattle.std.specs.Prelude.{◌≡◌, ◌≤◌, ◌<◌, ◌⊎◌, ℕ, IfOk, IfErr, Some, length};
+ghost use Rattle.std.specs.Prelude.{◌≡◌, ◌<◌, ◌⊎◌, ℕ, IfOk, IfErr, Some, length};
 ghost use Rattle.chain_graph.specs.Paths.{CallsNameChains};
 ghost use Rattle.dump_read.specs.Answers.{IsPrintableDump};
 ghost use Rattle.fw_rule.specs.Walk.{HasRoom, policy_of};
-ghost use Rattle.interval_set.specs.Numbers.{IsWidth};
-ghost use Rattle.limits.specs.declared.TheConstants.{MOST_BYTES};
 ghost use Rattle.fffuu_run.specs.Headline.{IsChain};
 ghost use Rattle.fffuu_run.specs.Questions.{AsksChain, HasNoChain, IsToldAs, asked_chain};
+ghost use Rattle.fffuu_run.specs.inner.Readings.{HoldsOfTexts, WasRead};
 
 use crate::Status;
-use crate::dumps::{asked, name_of, read};
+use crate::dumps::{DumpResult, asked, dump_or_status, name_of};
 use addr_text::Family;
 use fw_rule::{Dump, Verdict, policy_of};
 use match_expr::Primitive;
@@ -36,23 +35,22 @@ fn asked_policy<P: Primitive>(dump: &Dump<P>, name: &[u8], chain: u32) -> Verdic
     }
 }
 
-/// The dump that a text is, and its chain of this name.
+/// The dump that was read, and its chain of this name.
 pub fn question<F: Family<W>, const W: u32>(
-    alloc: Global,
     name: &[u8],
-    text: &[u8],
+    read: DumpResult<W>,
 ) -> Result<AskedChain<W>, Status>
-    requires width { IsWidth W }
-    requires size { length text.now ≤ MOST_BYTES }
-    ensures asked { IfOk result (λ q. AsksChain W F.Reads name.now text.now q.dump q.chain) }
+    requires { WasRead W F.Reads read }
+    ensures asked { IfOk result (λ q. HoldsOfTexts W F.Reads read.entry (λ text. AsksChain W F.Reads name.now text q.dump q.chain)) }
     ensures chain { IfOk result (λ q. IsChain q.dump q.chain name.now q.policy) }
     ensures policy { IfOk result (λ q. policy_of q.dump q.chain ≡ Some q.policy) }
     ensures room { IfOk result (λ q. HasRoom q.dump) }
     ensures named { IfOk result (λ q. CallsNameChains q.dump) }
     ensures printable { IfOk result (λ q. IsPrintableDump q.dump) }
-    ensures refused { IfErr result (λ s. (s ≡ Status.Memory) ⊎ HasNoChain W F.Reads name.now text.now s) }
+    ensures refused { IfErr result (λ s. (s ≡ Status.Memory)
+        ⊎ HoldsOfTexts W F.Reads read.entry (λ text. HasNoChain W F.Reads name.now text s)) }
 {
-    let dump = read::<F, W>(alloc, text)?;
+    let dump = dump_or_status(read)?;
     let Some(chain) = asked(&dump, name) else {
         return Err(Status::NoChain);
     };

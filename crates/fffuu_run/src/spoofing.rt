@@ -1,14 +1,15 @@
-ghost use Rattle.std.specs.Prelude.{◌≡◌, ◌≤◌, ◌⊎◌, ◌++◌, ◌∷◌, [], IfOk, IfErr, OnOk, Some, length};
+ghost use Rattle.std.specs.Prelude.{◌≡◌, ◌⊎◌, ◌++◌, ◌∷◌, [], IfOk, IfErr, OnOk, Some, length};
 ghost use Rattle.std.specs.List.{AllByRecursion};
 ghost use Rattle.chain_graph.specs.Paths.{CallsNameChains};
 ghost use Rattle.fw_rule.specs.Walk.{HasRoom, policy_of};
 ghost use Rattle.interval_set.specs.Numbers.{IsWidth};
 ghost use Rattle.primitives.specs.Ranges.{IsRange};
-ghost use Rattle.limits.specs.declared.TheConstants.{MOST_BYTES};
 ghost use Rattle.fffuu_run.specs.Questions.{Comes, IsWithin};
 ghost use Rattle.fffuu_run.specs.Spoofing.{AreVerdicts, HasValidPacket, IsSpoofOver, RefusesSpoofs, Spoofs, set_of, verdict_line};
+ghost use Rattle.fffuu_run.specs.inner.Readings.{HoldsOfTexts, WasRead};
 
 use crate::Status;
+use crate::dumps::DumpResult;
 use crate::questions::{AskedChain, question, told};
 use addr_text::Family;
 use fw_rule::{Dump, Verdict};
@@ -83,24 +84,26 @@ fn verdicts_of<F: Family<W>, const W: u32>(
     Ok(text)
 }
 
-/// The verdicts on forged sources in the chain of this name of a text, a line for each claim.
+/// The verdicts on forged sources in the chain of this name of the dump that was read, a line for each claim.
 pub fn spoof_text<F: Family<W>, const W: u32>(
     alloc: Global,
     claims: &[Claim],
     name: &[u8],
-    text: &[u8],
+    read: DumpResult<W>,
 ) -> Result<Vec<u8>, Status>
     requires width { IsWidth W }
-    requires size { length text.now ≤ MOST_BYTES }
+    requires read { WasRead W F.Reads read }
     requires ranges { AllByRecursion (λ claim. AllByRecursion (IsRange W) claim.inside) claims.now }
-    ensures ok { IfOk result (λ written. Spoofs W F.Reads F.text_of claims.now name.now text.now written.items) }
-    ensures refused { IfErr result (λ s. (s ≡ Status.Memory) ⊎ RefusesSpoofs W F.Reads F.text_of claims.now name.now text.now s) }
+    ensures ok { IfOk result (λ written. HoldsOfTexts W F.Reads read.entry
+        (λ text. Spoofs W F.Reads F.text_of claims.now name.now text written.items)) }
+    ensures refused { IfErr result (λ s. (s ≡ Status.Memory)
+        ⊎ HoldsOfTexts W F.Reads read.entry (λ text. RefusesSpoofs W F.Reads F.text_of claims.now name.now text s)) }
 {
     let AskedChain {
         dump,
         chain,
         policy,
-    } = question::<F, W>(alloc, name, text)?;
+    } = question::<F, W>(name, read)?;
     match verdicts_of::<F, W>(alloc, &dump, chain, policy, claims) {
         Ok(written) => Ok(written),
         Err(refusal) => Err(told(alloc, &dump, refusal)),

@@ -37,8 +37,8 @@ load_size n few =
     let lines : length (rule_lines n) ≤ 2000 * n = lines_size n few in
     omega (arith, lines, length-append head_text (rule_lines n ++ codes "COMMIT\n"), length-append (rule_lines n) (codes "COMMIT\n"))
 
-pub question-requires : goal.question-requires
-question-requires c = (omega arith, (search rules, rw (c.deref.ensures.value, c.in_ok-text.ensures) (load_size c.args.n c.requires.most)))
+pub read_text-requires : goal.read_text-requires
+read_text-requires c = (omega arith, (search rules, rw (c.deref.ensures.value, c.in_ok-text.ensures) (load_size c.args.n c.requires.most)))
 
 pub told-requires : goal.told-requires
 told-requires c = (

@@ -1,14 +1,13 @@
-use Rattle.std.proofs.Common.{◌≡◌, ◌≤◌, ◌-◌, ◌+◌, ◌++◌, vec_len}
-use Rattle.std.specs.Io.KnownBytes.{Consumes}
+use Rattle.std.proofs.Common.{◌≡◌, ◌≤◌, ◌-◌, ◌+◌, ℕ, List}
 use Rattle.limits.specs.declared.TheConstants.{MOST_BYTES}
+use Rattle.fffuu_run.proofs.Feeding.{HasFed}
 use Rattle.fffuu_run.proofs.reading.read_through.Given as goal
 
-abbrev pub invariant-loop-text : goal.invariant-loop-text
-invariant-loop-text g l = (vec_len l.text ≤ MOST_BYTES + 1)
-    × Consumes (g.S.Source.left l.initial.source) (g.S.Source.left l.source) l.text.items
-    × (g.S.Source.faults l.initial.source ≤ g.S.Source.faults l.source)
+abbrev pub invariant-loop-count : goal.invariant-loop-count
+invariant-loop-count g l = (l.size ≤ MOST_BYTES)
     × (g.S.Source.faults l.source ≡ g.S.Source.faults l.initial.source)
-    × (g.S.Source.given l.source ≡ g.S.Source.given l.initial.source ++ l.text.items)
+    × ((text : List ℕ) × HasFed g.row.W g.F.Family.Reads l.reading text l.size
+    (g.S.Source.left l.initial.source) (g.S.Source.left l.source) (g.S.Source.given l.initial.source) (g.S.Source.given l.source))
 
-abbrev pub decreases-loop-text : goal.decreases-loop-text
-decreases-loop-text g l = MOST_BYTES + 1 - vec_len l.text
+abbrev pub decreases-loop-count : goal.decreases-loop-count
+decreases-loop-count g l = MOST_BYTES - l.size

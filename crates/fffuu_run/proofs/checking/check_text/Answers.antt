@@ -1,0 +1,7 @@
+use Rattle.fffuu_run.specs.Checks.{IsCheckOver}
+use Rattle.fffuu_run.proofs.Texts.{refuses_texts}
+use Rattle.fffuu_run.proofs.checking.check_text.Goals as goal
+
+pub returns-clause-refused : goal.returns-clause-refused
+returns-clause-refused g c = refuses_texts g.F.Family.Reads c.args.read c.args.name.now (λ dump chain. IsCheckOver dump chain)
+    c.in_ok-dump.field-0.dump c.in_ok-dump.field-0.chain c.in-Err.refusal c.told.result c.in_ok-dump.ensures.asked c.in-Err.ensures.refused c.told.ensures
