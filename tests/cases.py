@@ -591,6 +591,145 @@ COMMIT
 """
 # no limited ping need be accepted
 ROUTER_LOWER = ROUTER_UPPER.replace("-A FORWARD -i ppp0 -p icmp -j ACCEPT\n", "")
+# one dump in another: two dumps with the dividing line between them, and the least packet of all
+LEAST = "in= out= src=0.0.0.0 dst=0.0.0.0 proto=0 sport=0 dport=0 flags=NONE state=INVALID icmp=0"
+COVERED = prints("covered\n")
+NO_DIVIDER = (14, "", "fffuu: no dividing line\n")
+NO_TABLE = (6, "", "fffuu: no filter table\n")
+
+
+def pair(first, second):
+    return f"{first}%%\n{second}"
+
+
+def shows(*fields):
+    """The answer that shows a packet: the least one but for these fields."""
+    given = dict(field.split("=") for field in fields)
+    parts = (field.split("=") for field in LEAST.split(" "))
+    return prints("not covered " + " ".join(f"{name}={given.get(name, value)}" for name, value in parts) + "\n")
+
+
+TEN = forward("-s 10.0.0.0/8 -j ACCEPT")
+HALF_OF_TEN = forward("-s 10.0.0.0/9 -j ACCEPT")
+LIMITED_TEN = forward("-s 10.0.0.0/8 -m limit --limit 1/sec -j ACCEPT")
+TEN_AND_ELEVEN = forward("-s 10.0.0.0/8 -j ACCEPT", "-s 11.0.0.0/8 -j ACCEPT")
+TEN_IN_PARTS = forward("-s 10.0.0.0/16 -j ACCEPT", "-s 10.0.0.0/8 -p tcp -j DROP", "-s 10.0.0.0/8 -j ACCEPT")
+NO_TCP_TO_TEN = forward("-d 10.0.0.0/8 -p tcp -j DROP", "-j ACCEPT")
+EVERYTHING = forward(policy="ACCEPT")
+SSH = forward("-p tcp -m tcp --dport 22 -j ACCEPT")
+NET6 = forward("-s 2001:db8::/32 -j ACCEPT")
+INPUT_TCP = wrapped(":INPUT DROP [0:0]", ":FORWARD ACCEPT [0:0]", "-A INPUT -p tcp -j ACCEPT")
+INPUT_ALL = wrapped(":INPUT ACCEPT [0:0]", ":FORWARD DROP [0:0]")
+OPEN_TABLE = "*filter\n:FORWARD DROP [0:0]\n"
+BAD_LINE = "x\n"
+QUEUED = calling("-j NFQUEUE --queue-num 1", returns="Q")
+LOST_RULE = wrapped(":FORWARD DROP [0:0]", "-A LOST -j ACCEPT")
+AFTER_OTHERS = "# of tomorrow\n*nat\nx\nCOMMIT\n" + wrapped(":FORWARD DROP [0:0]", "-A FORWARD -j TEE")
+
+CASES |= {
+    "a dump is covered by itself": ("cover", pair(TEN, TEN), COVERED),
+    "a half of a net is left over": ("cover", pair(TEN, HALF_OF_TEN), shows("src=10.128.0.0")),
+    "a half of a net is covered by the net": ("cover", pair(HALF_OF_TEN, TEN), COVERED),
+    "a limited accept of the second dump need not accept": ("cover", pair(TEN, LIMITED_TEN), shows("src=10.0.0.0")),
+    "a limited accept of the first dump may accept": ("cover", pair(LIMITED_TEN, HALF_OF_TEN), shows("src=10.128.0.0")),
+    "a limited accept is covered by the accept": ("cover", pair(LIMITED_TEN, TEN), COVERED),
+    "a limited accept is not covered by itself": ("cover", pair(LIMITED_TEN, LIMITED_TEN), shows("src=10.0.0.0")),
+    "a doubtful drop of the first dump need not drop": ("cover", pair(RECENT_DROP, forward()), shows()),
+    "a doubtful drop of the second dump may drop": ("cover", pair(EVERYTHING, RECENT_DROP), shows()),
+    "a doubtful drop is not covered by itself": ("cover", pair(RECENT_DROP, RECENT_DROP), shows()),
+    "a doubtful goto is not covered by itself": ("cover", pair(DOUBTFUL_GOTO, DOUBTFUL_GOTO), shows()),
+    "two doubtful matches behind a goto are not covered by themselves": ("cover", pair(GOTO_LIMITED, GOTO_LIMITED), shows("proto=6")),
+    "doubt that decides nothing": ("cover", pair(*[forward("-p tcp -m limit --limit 1/sec -j ACCEPT", "-p tcp -j ACCEPT")] * 2), COVERED),
+    "a policy of ACCEPT is not covered by one of DROP": ("cover", pair(EVERYTHING, forward()), shows()),
+    "a policy of DROP is covered by one of ACCEPT": ("cover", pair(forward(), EVERYTHING), COVERED),
+    "two policies of ACCEPT": ("cover", pair(EVERYTHING, EVERYTHING), COVERED),
+    "two policies of DROP": ("cover", pair(forward(), forward()), COVERED),
+    "the policy of the second dump accepts": ("cover", pair(forward("-p tcp -j ACCEPT"), forward("-p udp -j DROP", policy="ACCEPT")), COVERED),
+    "the policy of the first dump accepts": (
+        "cover", pair(forward("-p udp -j DROP", policy="ACCEPT"), forward("! -p tcp -j ACCEPT")), shows("proto=6")),
+    "the policies of both accept": ("cover", pair(forward("-p tcp -j DROP", policy="ACCEPT"), forward("! -p tcp -j ACCEPT")), COVERED),
+    "a port that the second dump drops": (
+        "cover", pair(forward("-p tcp -j ACCEPT"), forward("-p tcp -m tcp --dport 25 -j DROP", policy="ACCEPT")), shows("proto=6", "dport=25")),
+    "a port between two ranges": (
+        "cover", pair(forward("-p udp -m udp --sport 1:1000 -j ACCEPT"), forward("-p udp -m multiport --sports 1:10,12:1000 -j ACCEPT")),
+        shows("proto=17", "sport=11")),
+    "the first rule that is left over is shown": (
+        "cover", pair(forward("-s 11.0.0.0/8 -j ACCEPT", "-s 10.0.0.0/8 -j ACCEPT"), forward()), shows("src=11.0.0.0")),
+    "a rule behind one that is covered": ("cover", pair(TEN_AND_ELEVEN, TEN), shows("src=11.0.0.0")),
+    "a rule that no packet meets": ("cover", pair(forward("-s 10.0.0.0/8 -j ACCEPT", "-s 10.1.0.0/16 -p tcp -j ACCEPT"), TEN), COVERED),
+    "a region behind one that is covered": ("cover", pair(NO_TCP_TO_TEN, forward("! -d 10.0.0.0/8 -j ACCEPT")), shows("dst=10.0.0.0")),
+    "what the second dump accepts before it drops": ("cover", pair(TEN, TEN_IN_PARTS), shows("src=10.1.0.0", "proto=6")),
+    "what the first dump drops before it accepts": ("cover", pair(TEN_IN_PARTS, TEN), COVERED),
+    "an accept behind a drop": ("cover", pair(forward("-s 10.0.0.0/8 -j DROP", "-s 10.0.0.0/7 -j ACCEPT"), TEN), shows("src=11.0.0.0")),
+    "an interface is covered by its pattern": ("cover", pair(BY_NAME, forward("-i eth+ -j ACCEPT")), COVERED),
+    "a pattern is not covered by one of its names": ("cover", pair(forward("-i eth+ -j ACCEPT"), BY_NAME), shows("in=eth")),
+    "a pattern without its shortest name": ("cover", pair(forward("-i eth+ -j ACCEPT"), forward("-i eth -j ACCEPT")), shows("in=hex:65746800")),
+    "two output interfaces": ("cover", pair(forward("-o eth0 -j ACCEPT"), forward("-o eth1 -j ACCEPT")), shows("out=eth0")),
+    "all interfaces but one": ("cover", pair(EVERYTHING, forward("! -i eth0 -j ACCEPT")), shows("in=eth0")),
+    "a state that is left out": (
+        "cover", pair(SSH, forward("-p tcp -m tcp --dport 22 -m conntrack --ctstate INVALID,NEW,ESTABLISHED -j ACCEPT")),
+        shows("proto=6", "dport=22", "state=RELATED")),
+    "flags that are left out": ("cover", pair(forward("-p tcp -j ACCEPT"), forward("-p tcp -m tcp ! --syn -j ACCEPT")), shows("proto=6", "flags=SYN")),
+    "a type that is left out": ("cover", pair(forward("-p icmp -j ACCEPT"), NO_ECHO), shows("proto=1", "icmp=8")),
+    "a half of a net of IPv6 is left over": (
+        "cover --family 6", pair(NET6, NET6.replace("/32", "/33")), shows("src=2001:db8:8000::", "dst=::")),
+    "a net of IPv6 is covered by itself": ("--family=6 cover", pair(NET6, NET6), COVERED),
+    "chains and gotos are covered by their filter": ("cover", pair(LEFT_BY_GOTO, LEFT_FILTER), COVERED),
+    "chains and gotos cover their filter": ("cover", pair(LEFT_FILTER, LEFT_BY_GOTO), COVERED),
+    "a home router is covered by its upper filter": ("cover", pair(ROUTER, ROUTER_UPPER), COVERED),
+    "a home router covers its lower filter": ("cover", pair(ROUTER_LOWER, ROUTER), COVERED),
+    "a home router is not covered by itself": ("cover", pair(ROUTER, ROUTER), shows("in=ppp0", "proto=1", "state=NEW")),
+    "an upper filter is not covered by the lower one": ("cover", pair(ROUTER_UPPER, ROUTER_LOWER), shows("in=ppp0", "proto=1", "state=NEW")),
+    "the asked chain of both": ("cover --chain INPUT", pair(INPUT_TCP, INPUT_ALL), COVERED),
+    "the chain FORWARD of both": ("cover", pair(INPUT_TCP, INPUT_ALL), shows()),
+    "the asked chain is not in the first dump": ("cover --chain INPUT", pair(TEN, INPUT_ALL), (8, "", "fffuu: no chain INPUT\n")),
+    "the asked chain is not in the second dump": ("--chain=INPUT cover", pair(INPUT_ALL, TEN), (8, "", "fffuu: no chain INPUT\n")),
+    "one family for both": ("cover", pair(TEN, NET6), malformed(8)),
+    "one family for both, the other": ("cover --family 6", pair(NET6, TEN), malformed(8)),
+
+    # where the text is divided
+    "no dividing line": ("cover", TEN, NO_DIVIDER),
+    "no dividing line in an empty text": ("cover", "", NO_DIVIDER),
+    "no dividing line in a malformed text": ("cover", BAD_LINE + TEN, NO_DIVIDER),
+    "a text that ends within its dividing line": ("cover", TEN + "%", NO_DIVIDER),
+    "a first dividing line": ("cover", pair("", TEN), NO_TABLE),
+    "a dividing line alone": ("cover", "%%\n", NO_TABLE),
+    "a dividing line alone, without its line feed": ("cover", "%%", NO_TABLE),
+    "a last dividing line": ("cover", pair(TEN, ""), NO_TABLE),
+    "a last dividing line, without its line feed": ("cover", TEN + "%%", NO_TABLE),
+    "a last dividing line behind a malformed one": ("cover", BAD_LINE + "%%", malformed(1)),
+    "the second dump ends without a line feed": ("cover", pair(TEN, TEN)[:-1], COVERED),
+    "the first dump ends in an open table": ("cover", pair(OPEN_TABLE, TEN), malformed(3)),
+    "the first dump ends in a table that is passed over": ("cover", pair("*nat\n", "COMMIT\n" + TEN), malformed(2)),
+    "the second dump ends in an open table": ("cover", pair(TEN, OPEN_TABLE), malformed(8)),
+    "the second dump ends within a line": ("cover", pair(TEN, OPEN_TABLE + "-A FORWARD -s 10.0."), malformed(8)),
+    "a second dividing line": ("cover", pair(TEN, pair(TEN, TEN)), malformed(10)),
+    "a second dividing line among rules": ("cover", pair(TEN, OPEN_TABLE + "%%\nCOMMIT\n"), malformed(8)),
+    "a second dividing line in a table that is passed over": ("cover", pair(TEN, "*nat\n%%\nCOMMIT\n" + TEN), COVERED),
+
+    # lines are counted over the whole text
+    "a chain twice in the second dump": ("cover", pair(TEN, "*filter\n:FORWARD DROP\n:FORWARD DROP\nCOMMIT\n"), malformed(8)),
+    "a rule of no declared chain in the second dump": ("cover", pair(TEN, LOST_RULE), (7, "", "fffuu: line 8: undefined chain\n")),
+    "a goto of no declared chain in the second dump": (
+        "cover", pair(TEN, LOST_RULE.replace("-A LOST -j ACCEPT", "-A FORWARD -g LOST")), (7, "", "fffuu: line 8: undefined chain\n")),
+    "an unsupported target in the second dump": ("cover", pair(TEN, QUEUED), (9, "", "fffuu: line 10: unsupported target NFQUEUE\n")),
+    "comments and other tables count": (
+        "cover", pair("# of today\n\n" + TEN, AFTER_OTHERS), (9, "", "fffuu: line 14: unsupported target TEE\n")),
+    "a call loop in the second dump": ("cover", pair(TEN, calling("-j C")), (10, "", "fffuu: call loop through C\n")),
+    "a path that is too long in the second dump": ("cover", pair(TEN, doubling(256)), limit("depth")),
+    "too many nodes in the second dump": ("cover", pair(TEN, doubling(18)), limit("nodes")),
+    "a bad line behind a first dump that can be asked about": ("cover", pair(TEN, BAD_LINE), malformed(6)),
+}
+# what is wrong with the first dump is told before a bad line of the second
+CASES |= {f"{name} in the first dump, and a bad line in the second": ("cover", pair(first, BAD_LINE), wanted) for name, first, wanted in [
+    ("a bad line", forward("-s ! 10.0.0.0/8 -j DROP"), malformed(3)), ("no filter table", "*nat\nCOMMIT\n", NO_TABLE),
+    ("a rule of no declared chain", LOST_RULE, (7, "", "fffuu: line 3: undefined chain\n")),
+    ("no asked chain", wrapped(":INPUT DROP [0:0]"), (8, "", "fffuu: no chain FORWARD\n")),
+    ("an unsupported target", QUEUED, (9, "", "fffuu: line 5: unsupported target NFQUEUE\n")),
+    ("a call loop", calling("-j C"), (10, "", "fffuu: call loop through C\n")),
+    ("a path that is too long", doubling(256), limit("depth")), ("too many nodes", doubling(18), limit("nodes"))]}
+CASES |= {f"{line!r} divides nothing": ("cover", f"{TEN}{line}\n{TEN}", NO_DIVIDER) for line in ("%% ", " %%", "\t%%", "%%\r", "%", "%%%", "# %%", '"%%"', "%%\0")}
+
 EXPLAIN_TEXT = forward("-j ACCEPT")
 # what no packet of `explain` is
 BAD_FIELDS = ["src", "src=", "src=1.2.3", "src=10.0.0.0/8", "src=::1", "dst=1.2.3.256", "proto=", "proto=256", "proto=all", "proto=TCP",
@@ -615,6 +754,7 @@ BAD_WORDS = [
     "spoof eth0=10.0.0.0/33", "spoof eth0=10.0.0.0/08", "spoof eth0=10.0.0.0/255.0.0.0", "spoof eth0=2.2.2.2-1.1.1.1",
     "spoof eth0=1.1.1.1-1.1.1.2/32", "spoof eth0=::1", "spoof eth0=1.1.1.1 --family 6", "spoof eth0=1.1.1.1 --side upper", "spoof eth0=1.1.1.1 eth1",
     "load", "load 0", "load 05", "load five", "load 5 5", "load 5 --family 4", "load 5 --side upper",
+    "cover x", "cover cover", "cover --side upper", "cover --side lower", "--side=upper cover", "cover --family 5", "cover --chain",
 ]
 
 # at the limits: words, text, and a status with the last line on standard error, or the number of rule lines that are written
@@ -692,6 +832,20 @@ def paired_drops(count):
 
 
 ONE_MORE = "-A FORWARD -s 3.0.0.1/32 -d 2.0.0.0/32 -p udp -j DROP"
+# parts the one piece of other protocols that has the source in two
+ONE_REGION_MORE = "-A FORWARD -s 3.0.0.1/32 -p udp -j DROP"
+
+
+def turned(text):
+    """The dump with ACCEPT for DROP and DROP for ACCEPT."""
+    words = {"ACCEPT": "DROP", "DROP": "ACCEPT"}
+    return "\n".join(" ".join(words.get(word, word) for word in line.split(" ")) for line in text.split("\n"))
+
+
+def doubtful(action):
+    """128 visits of 2,048 doubtful rules with this action: too many items for one side, and none for the other."""
+    return doubling(8).replace("-A N8 -j ACCEPT\n", f"-A N8 -m socket -j {action}\n" * 2048)
+
 
 
 LIMITS = {
@@ -731,4 +885,25 @@ LIMITS = {
     "16,777,217 visits": ("explain src=2.2.2.2", visited("-A FORWARD -j ACCEPT"), limit("visits")),
     "16,777,216 visits by gotos": ("explain src=2.2.2.2", visited(by="-g"), prints("accept never\ndrop under 0\n")),
     "16,777,217 visits by gotos": ("explain src=2.2.2.2", visited("-A FORWARD -j ACCEPT", by="-g"), limit("visits")),
+    "nodes of the first dump are those of upper": ("cover", pair(doubtful("ACCEPT"), EVERYTHING), limit("nodes")),
+    "nodes of the first dump are not those of lower": ("cover", pair(doubtful("DROP"), forward()), COVERED),
+    "nodes of the second dump are those of lower": ("cover", pair(forward(), doubtful("DROP")), limit("nodes")),
+    "nodes of the second dump are not those of upper": ("cover", pair(forward(), doubtful("ACCEPT")), COVERED),
+    "131,073 simple rules of the first dump": ("cover", pair(many(131_073, "-A FORWARD -j ACCEPT"), EVERYTHING), limit("rules")),
+    "131,073 simple rules of the second dump": ("cover", pair(EVERYTHING, many(131_073, "-A FORWARD -j DROP")), limit("rules")),
+    "131,072 simple rules of both": ("cover", pair(many(131_072, "-A FORWARD -j ACCEPT"), many(131_072, "-A FORWARD -j ACCEPT")), COVERED),
+    "256 chains in a row of both": ("cover", pair(chained(256), chained(256, "-g")), COVERED),
+    "257 chains in a row of the first dump, and a bad line": ("cover", pair(chained(257), BAD_LINE), limit("depth")),
+    "257 chains in a row of the second dump": ("cover", pair(chained(256), chained(257)), limit("depth")),
+    "printed lines are not counted": (
+        "cover", pair(many(131_071, ROUND, "-A FORWARD ! -s 10.0.0.0/8 ! -d 10.0.0.0/8 -j ACCEPT"), EVERYTHING), COVERED),
+    "65,536 regions that drops of the first dump leave": ("cover", pair(region_drops(), EVERYTHING), COVERED),
+    "more regions that drops of the first dump leave": ("cover", pair(region_drops(ONE_REGION_MORE), EVERYTHING), limit("regions")),
+    "65,536 regions that accepts of the first dump leave": ("cover", pair(region_drops().replace("-j DROP", "-j ACCEPT"), EVERYTHING), COVERED),
+    "more regions that accepts of the first dump leave": ("cover", pair(region_drops(ONE_REGION_MORE).replace("-j DROP", "-j ACCEPT"), EVERYTHING), limit("regions")),
+    "65,536 regions that accepts of the second dump leave": ("cover", pair(EVERYTHING, turned(region_drops())), shows()),
+    "more regions that accepts of the second dump leave": ("cover", pair(EVERYTHING, turned(region_drops(ONE_REGION_MORE))), limit("regions")),
+    "more regions of the first dump behind the answer": (
+        "cover", pair(region_drops("-A FORWARD -s 200.0.0.0/8 -p udp -j ACCEPT", ONE_REGION_MORE), forward()), shows("src=200.0.0.0", "proto=17")),
+    "more regions of the first dump, and a limit of the second": ("cover", pair(region_drops(ONE_REGION_MORE), chained(257)), limit("depth")),
 }

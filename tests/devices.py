@@ -15,6 +15,7 @@ import termios
 import threading
 
 import cases
+import reader
 from pieces import cut
 from pieces import run as run_over
 
@@ -23,6 +24,8 @@ TEXT = cases.forward("-s 10.0.0.0/8 -j ACCEPT").encode()
 REFUSED = cases.wrapped(":FORWARD DROP [0:0]", "-A FORWARD -s 10.0.").encode()
 REFUSAL = b"fffuu: line 3: malformed\n"
 TOO_LONG = b"fffuu: input is longer than 16777216 bytes\n"
+PAIR = cases.pair(TEXT.decode(), TEXT.decode()).encode()
+UNDIVIDED = b"fffuu: no dividing line\n"
 passed = failed = 0
 
 
@@ -55,6 +58,10 @@ def cut_texts():
         status, out, err = run(["check"], text[:length])
         wanted = (0,) if length == len(text) - 1 else (5, 6)
         check(f"the first {length} bytes", (status in wanted, out == b"", err == b""), (True, status != 0, status == 0))
+    for length in range(len(PAIR) + 1):
+        status, line = reader.cover(PAIR[:length])
+        wanted = status, b"" if status else b"covered\n", line.encode()
+        check(f"the first {length} bytes of two dumps", run(["cover"], PAIR[:length]), wanted)
 
 
 def pieces():
@@ -82,11 +89,12 @@ def endless():
     """Input that never ends is too long."""
     with open("/dev/zero", "rb") as zero:
         check("/dev/zero", run(["check"], stdin=zero), (4, b"", TOO_LONG))
-    for name, piece in [("zeros", bytes(65_536)), ("line feeds", b"\n" * 4096), ("rules outside a table", b"-A FORWARD -j ACCEPT\n" * 100)]:
+    for name, piece in [("zeros", bytes(65_536)), ("line feeds", b"\n" * 4096), ("rules outside a table", b"-A FORWARD -j ACCEPT\n" * 100),
+                        ("dividing lines", b"%%\n" * 1000)]:
         reading, writing = os.pipe()
         feeder = threading.Thread(target=feed, args=(writing, piece))
         feeder.start()
-        got = run(["check"], stdin=reading)
+        got = run(["cover" if b"%" in piece else "check"], stdin=reading)
         os.close(reading)
         feeder.join()
         check(f"{name} without end", got, (4, b"", TOO_LONG))
@@ -96,12 +104,13 @@ def broken_inputs():
     """A read that fails ends the run, at the first read and after the whole text."""
     check("a folder as standard input", run(["upper"], stdin=os.open("/", os.O_RDONLY)), (2, b"", b"fffuu: read failed\n"))
     check("a closed standard input", run(["upper"], stdin=subprocess.DEVNULL, preexec_fn=closed(0)), (2, b"", b"fffuu: read failed\n"))
-    for name, sent in [("nothing", b""), ("half of the text", TEXT[:30]), ("the whole text", TEXT), ("a line that is refused", REFUSED)]:
+    for name, sent in [("nothing", b""), ("half of the text", TEXT[:30]), ("the whole text", TEXT), ("a line that is refused", REFUSED),
+                       ("two dumps", PAIR), ("a dividing line", TEXT + b"%%\n"), ("a dump that is refused and a dividing line", REFUSED + b"%%\n")]:
         here, there = socket.socketpair()
         there.send(b"x")
         here.send(sent)
         here.close()
-        got = run(["upper"], stdin=there.fileno())
+        got = run(["cover" if b"%%" in sent else "upper"], stdin=there.fileno())
         there.close()
         check(f"a connection that is reset after {name}", got, (2, b"", b"fffuu: read failed\n"))
     check("a load reads no closed standard input", run(["load", "1"], stdin=subprocess.DEVNULL, preexec_fn=closed(0))[::2], (0, b""))
@@ -111,7 +120,7 @@ def unread_inputs():
     """Words that spell no request, and a load, leave standard input where it stands."""
     held = os.memfd_create("unread")
     os.write(held, TEXT)
-    for words, status in [([], 1), (["upper", "upper"], 1), (["upper", "--family", "5"], 1), (["load", "5"], 0)]:
+    for words, status in [([], 1), (["upper", "upper"], 1), (["upper", "--family", "5"], 1), (["cover", "--side", "upper"], 1), (["load", "5"], 0)]:
         os.lseek(held, 0, os.SEEK_SET)
         got = run(words, stdin=held)[0]
         check(f"what the words {words} read", (got, os.lseek(held, 0, os.SEEK_CUR)), (status, 0))
@@ -131,8 +140,11 @@ def broken_outputs():
     with open("/dev/full", "wb") as full:
         check("a full device", run(["upper"], TEXT, stdout=full), (3, None, told))
         check("a full device for a text that is refused", run(["upper"], REFUSED, stdout=full), (5, None, REFUSAL))
+        check("a full device for two dumps", run(["cover"], PAIR, stdout=full), (3, None, told))
+        check("a full device for a text that isn't divided", run(["cover"], TEXT, stdout=full), (14, None, UNDIVIDED))
     check("a closed standard output", run(["upper"], TEXT, preexec_fn=closed(1)), (3, b"", told))
     check("a closed standard output of a text that is refused", run(["upper"], REFUSED, preexec_fn=closed(1)), (5, b"", REFUSAL))
+    check("a closed standard output of a text that isn't divided", run(["cover"], TEXT, preexec_fn=closed(1)), (14, b"", UNDIVIDED))
     writing = nobody_reads()
     check("a pipe that nobody reads", run(["upper"], TEXT, stdout=writing), (3, None, told))
     os.close(writing)
@@ -141,7 +153,7 @@ def broken_outputs():
 def broken_errors():
     """A line that can't be told changes no status and nothing on standard output."""
     for name, words, text, status, out in [("refused", ["upper"], REFUSED, 5, b""), ("answered", ["upper"], TEXT, 0, TEXT),
-                                           ("no words", [], TEXT, 1, b"")]:
+                                           ("no words", [], TEXT, 1, b""), ("not divided", ["cover"], TEXT, 14, b"")]:
         with open("/dev/full", "wb") as full:
             check(f"{name}, standard error on a full device", run(words, text, stderr=full)[:2], (status, out))
         check(f"{name}, standard error closed", run(words, text, preexec_fn=closed(2))[:2], (status, out))

@@ -3,7 +3,8 @@
 
     python3 tests/examples.py PROGRAM
 
-An example is a line `$ COMMAND` in a block of README.md, docs/MANUAL.md or docs/VIEW.md, and the lines under it up to the next one.
+An example is a line `$ COMMAND` in a block of README.md, docs/MANUAL.md, docs/VIEW.md or samples/README.md, and the lines under it up to
+the next one.
 `./run` stands for the program. Of samples/README.md each mode of the table is run. Prints each one that disagrees and a last line
 'N passed, M failed'; the exit status is 1 where one failed. An example that needs Graphviz is left out where that is missing."""
 import os
@@ -13,7 +14,7 @@ import subprocess
 import sys
 
 TOP = os.path.dirname(os.path.dirname(os.path.abspath(__file__)))
-PAGES = ["README.md", "docs/MANUAL.md", "docs/VIEW.md"]
+PAGES = ["README.md", "docs/MANUAL.md", "docs/VIEW.md", "samples/README.md"]
 NEEDS = {"tools/fffuu-view graph": "dot"}
 passed = failed = 0
 

@@ -1,5 +1,5 @@
 #!/usr/bin/env python3
-"""Lets each allocation of a run fail in turn, over four dumps: a run gives its answer, or status 12 with nothing on standard output.
+"""Lets each allocation of a run fail in turn, over five inputs: a run gives its answer, or status 12 with nothing on standard output.
 
     nice -n 15 python3 tests/memory.py
 
@@ -27,6 +27,7 @@ DUMPS = {
     "two visits explained": ("explain src=10.0.0.1", cases.LIMITED_ACCEPT),
     "a home router": ("upper", cases.ROUTER),
     "a matrix": ("matrix tcp:10000:22", cases.ONE_PAIR),
+    "two dumps": ("cover", cases.pair(cases.LEFT_BY_GOTO, cases.LEFT_FILTER)),
 }
 
 

@@ -68,6 +68,13 @@ def edges():
     text += b"x" * (MOST - len(text))
     check("16,777,216 bytes are read", (len(text), told(run(["check"], text))), (MOST, counts(1, 1, 0)))
     check("16,777,217 bytes are too long", told(run(["check"], text + b"x")), refused(4, "input is longer than 16777216 bytes"))
+    check("16,777,216 bytes without a dividing line", told(run(["cover"], text)), refused(14, "no dividing line"))
+    check("16,777,217 bytes without a dividing line", told(run(["cover"], text + b"x")), refused(4, "input is longer than 16777216 bytes"))
+    text = cases.pair(four.decode(), four.decode()).encode() + b"#"
+    text += b"x" * (MOST - len(text))
+    check("two dumps of 16,777,216 bytes", (len(text), told(run(["cover"], text))), (MOST, (0, b"covered\n", b"")))
+    check("two dumps of 16,777,217 bytes", told(run(["cover"], text + b"x")), refused(4, "input is longer than 16777216 bytes"))
+    check("two dumps and 16 MiB of dividing lines", told(run(["cover"], (text[:200] + b"\n%%" * (MOST // 3))[:MOST])), refused(5, "line 11: malformed"))
 
 
 ROUTER = cases.ROUTER.encode()
@@ -316,6 +323,21 @@ def worked():
             check(name, (status, out.decode(), err.decode()), wanted)
 
 
+def covered(family, first, second):
+    """Whether the second dump covers the first; the bytes where it isn't said."""
+    done = run(["cover", *family], first + b"%%\n" + second)
+    shown = done.stdout.startswith(b"not covered in=")
+    return not shown if (done.returncode, done.stderr) == (0, b"") and (shown or done.stdout == b"covered\n") else told(done)
+
+
+def covers(path, family, text, upper, lower):
+    """A dump between its filters: what it covers, and what covers it. It covers itself exactly where lower covers upper."""
+    itself = covered(family, text, text)
+    for name, first, second, wanted in [("the dump by upper", text, upper, True), ("lower by the dump", lower, text, True), ("lower by upper", lower, upper, True),
+                                        ("upper by lower", upper, lower, itself), ("the dump by lower", text, lower, itself), ("upper by the dump", upper, text, itself)]:
+        check(f"covered: {name}, of {path}", covered(family, first, second), wanted)
+
+
 def samples():
     for path in sorted(glob.glob(f"{TOP}/samples/*.rules")):
         with open(path, "rb") as given:
@@ -323,12 +345,15 @@ def samples():
         family = ["--family", "6" if path.endswith("6.rules") else "4"]
         table = text[text.index(b"*filter\n"):].split(b"\nCOMMIT")[0].splitlines()
         chains, rules = (sum(line.startswith(front) for line in table) for front in (b":", b"-A "))
+        printed = {}
         check(f"counts of {path}", run(["check", *family], text).stdout.split()[:5], f"ok chains {chains} rules {rules}".encode().split())
         for mode in ("upper", "lower"):
             with open(f"{path[:-len('rules')]}{mode}", "rb") as kept:
                 wanted = kept.read()
             check(f"{mode} of {path}", told(run([mode, *family], text)), (0, wanted, b""))
             check(f"{mode} of its own answer for {path}", told(run([mode, *family], wanted)), (0, wanted, b""))
+            printed[mode] = wanted
+        covers(path, family, text, printed["upper"], printed["lower"])
         for side, accepts in (("upper", lambda found: "accept" in found), ("lower", lambda found: found == {"accept"})):
             wanted = questions.matrix_text(text.decode(), int(family[1]), "tcp:1024:80", accepts)
             check(f"matrix of side {side} of {path}", told(run(["matrix", "tcp:1024:80", "--side", side, *family], text)), (0, wanted.encode(), b""))

@@ -1,11 +1,12 @@
 #!/usr/bin/env python3
-"""A plain reader of iptables-save texts and the answer of `check`, written from the rules of the manual alone, to compare
-the built program with."""
+"""A plain reader of iptables-save texts, the answer of `check`, and how `cover` divides a text, written from the rules of the manual
+alone, to compare the built program with."""
 import ipaddress
 import re
 import socket
 
 BLANKS = b" \t\r"
+DIVIDER = b"%%"
 TARGET_WORDS = {b"ACCEPT", b"DROP", b"REJECT", b"RETURN", b"LOG", b"NFLOG", b"ULOG", b"MARK", b"CONNMARK", b"TCPMSS", b"SET"}
 PASSING = {b"LOG", b"NFLOG", b"ULOG", b"MARK", b"CONNMARK", b"TCPMSS", b"SET"}
 BUILT_IN = {b"INPUT", b"FORWARD", b"OUTPUT"}
@@ -354,3 +355,21 @@ def check(text, asked=b"FORWARD", family=4):
         return 11, "fffuu: limit depth\n"
     rules = [rule for _, chain in chains.values() for rule in chain]
     return 0, f"ok chains {len(chains)} rules {len(rules)} unknown {sum(lits.count(False) for _, lits, _ in rules)}\n"
+
+
+def moved(line, lines):
+    """The line of a refusal, whose number of a line counts from so many lines further up."""
+    return re.sub(r"^fffuu: line (\d+)", lambda found: f"fffuu: line {int(found[1]) + lines}", line)
+
+
+def cover(text, asked=b"FORWARD", family=4):
+    """The status and the line of `cover`, as far as reading the two dumps tells them: no line where both can be asked about."""
+    lines = lines_of(text)
+    if DIVIDER not in lines:
+        return 14, "fffuu: no dividing line\n"
+    at = lines.index(DIVIDER)
+    for before, part in ((0, lines[:at]), (at + 1, lines[at + 1:])):
+        status, line = check(b"".join(it + b"\n" for it in part), asked, family)
+        if status != 0:
+            return status, moved(line, before)
+    return 0, ""

@@ -1,6 +1,7 @@
 #!/usr/bin/env python3
-"""Compares `check` of the built program with the plain reader in reader.py, on random texts, most of them nearly right. Every other
-text comes as a whole, and every other one in pieces of random sizes, some of them byte by byte.
+"""Compares `check` of the built program with the plain reader in reader.py, on random texts, most of them nearly right, and `cover` on
+two such texts with a dividing line between them, or nearly one. Every other text comes as a whole, and every other one in pieces of
+random sizes, some of them byte by byte.
 
     python3 tests/texts.py PROGRAM COUNT START
 
@@ -32,6 +33,7 @@ TARGETS = ["-j ACCEPT", "-j DROP", "-j REJECT", "-j REJECT --reject-with tcp-res
            '-j LOG --log-prefix "x y"', "-j SET", "-j A", "-j B", "-j C", "-j A x", '-j "a b"', "-j INPUT", "-j NFQUEUE", "-j ACCEPT x",
            "-g A", '-g "B"', "-g A x", "-g", "-g LOST", "-g LOST x", "-g INPUT", "-g ACCEPT", "-g A -g B", "! -g A", '"-g" A', "", "-j",
            "-j MARK --set-mark 1"]
+DIVIDERS = [b"%%"] * 60 + [b"%% ", b" %%", b"%%\r", b"%", b"%%%", b"#%%", b'"%%"', b"%%\n%%", b"*nat\n%%", b""]
 PLAIN = ["", "-p tcp", "-i eth0", "-m limit --limit 1/s", "-m socket"]
 PLAIN_TARGETS = ["-j ACCEPT", "-j DROP", "-j A", "-j B", "-j C", "-j RETURN", "-j NFQUEUE", "-j LOG", "-g A", "-g B", "-g C"]
 
@@ -85,6 +87,36 @@ def text(rng, family):
     return whole.encode()
 
 
+def tried_text(rng, family):
+    """A text, or nothing; half of the time the first one of some that `check` doesn't refuse."""
+    tried = [text(rng, family) for _ in range(rng.choice([1, 8]))]
+    return b"" if rng.random() < 0.03 else next((it for it in tried if reader.check(it, b"FORWARD", family)[0] == 0), tried[0])
+
+
+def two_texts(rng, family):
+    """Two texts with a line between them that divides them, or nearly does. Some are cut off."""
+    first, second = tried_text(rng, family), tried_text(rng, family)
+    if first and not first.endswith(b"\n") and rng.random() < 0.9:
+        first += b"\n"
+    whole = first + rng.choice(DIVIDERS) + rng.choice([b"\n"] * 24 + [b""]) + second
+    return whole[:rng.randrange(len(whole) + 1)] if rng.random() < 0.08 else whole
+
+
+def wanted_of(mode, given, asked, family):
+    """How a run has to end: its status, its output, or None for some answer of `cover`, and its line."""
+    if mode == "cover":
+        status, line = reader.cover(given, asked.encode(), family)
+        return status, None if status == 0 else b"", line.encode()
+    status, line = reader.check(given, asked.encode(), family)
+    return (status, line.encode(), b"") if status == 0 else (status, b"", line.encode())
+
+
+def is_wanted(got, wanted):
+    if wanted[1] is None:
+        return (got[0], got[2]) == (wanted[0], wanted[2]) and got[1].startswith((b"covered\n", b"not covered in="))
+    return got == wanted
+
+
 def ending(program, words, given, rng):
     """How a run over the text ends: its status, its output and its line."""
     if rng is None:
@@ -98,16 +130,16 @@ def main(program, count, start):
     failed, statuses = 0, {}
     for number in range(count):
         family = rng.choice([4, 4, 6])
-        given = text(rng, family)
+        mode = rng.choice(["check", "check", "cover"])
+        given = two_texts(rng, family) if mode == "cover" else text(rng, family)
         asked = rng.choice(["FORWARD"] * 6 + ["INPUT", "A", "hex:", "OUTPUT", "", "hex:1"])
-        status, line = reader.check(given, asked.encode(), family)
-        statuses[status] = statuses.get(status, 0) + 1
-        got = ending(program, ["check", "--chain", asked, "--family", str(family)], given, cuts if number % 2 else None)
-        wanted = (status, line.encode(), b"") if status == 0 else (status, b"", line.encode())
-        if got != wanted:
+        wanted = wanted_of(mode, given, asked, family)
+        statuses[wanted[0]] = statuses.get(wanted[0], 0) + 1
+        got = ending(program, [mode, "--chain", asked, "--family", str(family)], given, cuts if number % 2 else None)
+        if not is_wanted(got, wanted):
             failed += 1
             if failed <= 5:
-                print(f"{asked} {family} {given}: got {got}, wanted {wanted}")
+                print(f"{mode} {asked} {family} {given}: got {got}, wanted {wanted}")
     print("statuses", dict(sorted(statuses.items())))
     print(f"{count - failed} passed, {failed} failed")
     return 1 if failed else 0

@@ -8,7 +8,7 @@ _fffuu() {
     esac
     local words="--chain --family"
     if [ "$COMP_CWORD" -eq 1 ]; then
-        words="check upper lower matrix spoof explain load"
+        words="check upper lower matrix spoof explain cover load"
     else
         case ${COMP_WORDS[1]} in
             matrix) words="$words --side" ;;

@@ -6,6 +6,7 @@ complete -c fffuu -n __fish_use_subcommand -a lower -d 'what must be accepted, a
 complete -c fffuu -n __fish_use_subcommand -a matrix -d 'which addresses may open a service to which'
 complete -c fffuu -n __fish_use_subcommand -a spoof -d 'whether forged sources pass an interface'
 complete -c fffuu -n __fish_use_subcommand -a explain -d 'what decides one packet'
+complete -c fffuu -n __fish_use_subcommand -a cover -d 'whether one dump lets through no more than another'
 complete -c fffuu -n __fish_use_subcommand -a load -d 'a generated dump, for timing'
 complete -c fffuu -l chain -x -a 'INPUT FORWARD OUTPUT' -d 'the asked chain'
 complete -c fffuu -l family -x -a '4 6' -d 'IPv4 or IPv6'

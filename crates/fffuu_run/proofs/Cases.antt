@@ -11,7 +11,8 @@ use Rattle.fffuu_run.specs.Answers.{IsAnswer, IsOutputIn, IsRefusedAs, RefusesMo
 use Rattle.fffuu_run.specs.Runs.{AnswersTo, Device, Devices, GivesFor, IsDue, IsPassed, IsRead, IsReported, IsRun, IsRunOf, IsStatusOf, KeepsSink, ReadsTooMuch, ReadsWhole, StandsFor, Streams, WritesLine}
 use Rattle.fffuu_run.specs.declared.status.Status.{Status}
 use Rattle.fffuu_run.specs.declared.status.Status.TheVariants as status
-use Rattle.fffuu_run.proofs.Causes.{IsRefusal, is_refusal, no_cause, one_cause}
+use Rattle.fffuu_run.proofs.Causes.{is_refusal, no_cause, one_cause}
+use Rattle.fffuu_run.proofs.Settled.{IsRefusal}
 
 -- what was read to the end is what was left
 whole_text : (left new : Option (List ℕ)) (bytes text : List ℕ) → left ≡ Some bytes → ReadsWhole left new text → text ≡ bytes
@@ -50,6 +51,7 @@ read_or_load (mode.Matrix service side) = inl tt
 read_or_load (mode.Spoof claims) = inl tt
 read_or_load (mode.Explain p) = inl tt
 read_or_load (mode.Load n) = inr (n, refl)
+read_or_load mode.Cover = inl tt
 
 takes_whole : (m : Mode) (old new : Device) (text : List ℕ) → IsRead m → AnswersTo m old new text → ReadsWhole old.bytes new.bytes text
 takes_whole (mode.Load n) old new text read takes = absurd read
@@ -211,3 +213,8 @@ pub told_named : (old new : Device) (a b : List ℕ) (first s : Status) → (fir
     → (sent rest : List ℕ) × WritesLine old new (line_of a s) sent rest → (sent rest : List ℕ) × WritesLine old new (line_of b s) sent rest
 told_named old new a b first s same settled told =
     subst (λ (line : List ℕ). (sent rest : List ℕ) × WritesLine old new line sent rest) (same_line a b s (λ is. same (no_chain first s settled is))) told
+
+-- a status that tells why there is no answer, or want of memory, isn't that of words that spell no request
+pub not_usage : (request : Request) (text : List ℕ) (s : Status) → (s ≡ status.Memory) ⊎ IsRefusedAs request text s → s ≡ status.Usage → ⊥
+not_usage request text s (inl memory) is = absurd (let wrong : status.Memory ≡ status.Usage = sym memory ∙ is in cc)
+not_usage request text s (inr refuses) is = subst IsRefusal is (is_refusal request text s refuses)

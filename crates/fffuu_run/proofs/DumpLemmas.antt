@@ -109,7 +109,7 @@ rises_numbered n [] = tt
 rises_numbered n (line ∷ lines) = (omega arith, rises_numbered (n + 1) lines)
 
 -- the lines of each of some tables stand together
-lines_there : (tables : List DumpTable) (t : DumpTable) → Contains tables t → (before after : List Numbered) × (flat_map lines_of tables ≡ before ++ (lines_of t ++ after))
+pub lines_there : (tables : List DumpTable) (t : DumpTable) → Contains tables t → (before after : List Numbered) × (flat_map lines_of tables ≡ before ++ (lines_of t ++ after))
 lines_there [] t h = absurd (contains_none t h)
 lines_there (u ∷ tables) t h = elim (contains_cons u tables t h) [
   | inl same ↦ ([], flat_map lines_of tables, ap (λ (v : DumpTable). lines_of v ++ flat_map lines_of tables) same)
@@ -126,7 +126,7 @@ module _ {W : ℕ} where
   chain_with rules d = record { name = d.name; policy = d.policy; rules = map rule_of (filter (is_in d.name) rules) }
 
   -- a rule of a dump is that of a placed one
-  placed_of : (chains : List Declared) (rules : List (Placed W)) (c : ℕ) (rule : Rule (Prim_ W)) → RuleOf (dump_of chains rules) c rule
+  pub placed_of : (chains : List Declared) (rules : List (Placed W)) (c : ℕ) (rule : Rule (Prim_ W)) → RuleOf (dump_of chains rules) c rule
       → (placed : Placed W) × Contains rules placed × (rule_of placed ≡ rule)
   unfolding chain_with
   placed_of chains rules c rule (here, at, inside) =

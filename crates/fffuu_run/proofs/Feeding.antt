@@ -14,7 +14,7 @@ use Rattle.dump_read.specs.Answers.{IsFaultOf, IsPrintableDump}
 use Rattle.dump_read.specs.Pieces.{IsEarlyFaultOf, IsReading, StandsFor}
 use Rattle.dump_read.proofs.AnswerLemmas.{early_stays}
 use Rattle.dump_read.proofs.PieceLemmas.{early_fault}
-use Rattle.fffuu_run.specs.Runs.{GivesTooMuch, GivesWhole, Intake, ReadsTooMuch, ReadsWhole}
+use Rattle.fffuu_run.specs.Runs.{GivesTooMuch, GivesWhole, ReadsTooMuch, ReadsWhole}
 use Rattle.fffuu_run.specs.inner.Readings.{IsFed, IsReadOf}
 
 module _ {W : ℕ} {F : Type 0} (Reads : List ℕ → ℕ → Type 0) where
@@ -54,16 +54,15 @@ module _ {W : ℕ} {F : Type 0} (Reads : List ℕ → ℕ → Type 0) where
   ended_as reading text result ok fault room printable failed (inr (e, (is, early))) =
       subst (IsReadOf W Reads text) (sym (failed e is)) (record { answers = (tt, early_fault W Reads text e early); room = tt; printable = tt })
 
--- the source gave this text since it was `left_old` and had given `given_old`, and the reading was fed it, which has so many bytes
-pub record HasFed {F : Type 0} (W : ℕ) (Reads : List ℕ → ℕ → Type 0) (reading : Reading F W) (text : List ℕ) (size : ℕ)
-    (left_old left_new : Option (List ℕ)) (given_old given_new : List ℕ) : Type 0 where
-  pub fed : IsFed W Reads reading text
+-- the source gave this text since it was `left_old` and had given `given_old`, and the text, which has so many bytes, was taken
+pub record HasFed (Taken : List ℕ → Type 0) (text : List ℕ) (size : ℕ) (left_old left_new : Option (List ℕ)) (given_old given_new : List ℕ) : Type 0 where
+  pub fed : Taken text
   pub taken : Consumes left_old left_new text
   pub given : given_new ≡ given_old ++ text
   pub size_is : length text ≡ size
 
-module _ {F : Type 0} (W : ℕ) (Reads : List ℕ → ℕ → Type 0) (reading : Reading F W) (text : List ℕ) (size : ℕ)
-    (left_old left left_new : Option (List ℕ)) (given_old given given_new : List ℕ) (so_far : HasFed W Reads reading text size left_old left given_old given) where
+module _ (Taken : List ℕ → Type 0) (text : List ℕ) (size : ℕ)
+    (left_old left left_new : Option (List ℕ)) (given_old given given_new : List ℕ) (so_far : HasFed Taken text size left_old left given_old given) where
   module _ (buffer : List ℕ) (count : ℕ) (bound : count ≤ length buffer) (takes : Consumes left left_new (take count buffer)) (gives : given_new ≡ given ++ take count buffer) where
     piece_size : length (take count buffer) ≡ count
     piece_size = length-take-le count buffer bound
@@ -75,9 +74,9 @@ module _ {F : Type 0} (W : ℕ) (Reads : List ℕ → ℕ → Type 0) (reading :
     gained = gives ∙ ap (λ (before : List ℕ). before ++ take count buffer) so_far.given ∙ append_assoc given_old text (take count buffer)
 
     -- so it is with one piece more
-    pub fed_next : (new : Reading F W) → IsFed W Reads new (text ++ take count buffer)
-        → HasFed W Reads new (text ++ take count buffer) (size + count) left_old left_new given_old given_new
-    fed_next new fed = record {
+    pub fed_next : (TakenNow : List ℕ → Type 0) → TakenNow (text ++ take count buffer)
+        → HasFed TakenNow (text ++ take count buffer) (size + count) left_old left_new given_old given_new
+    fed_next TakenNow fed = record {
       fed = fed;
       taken = consumed;
       given = gained;

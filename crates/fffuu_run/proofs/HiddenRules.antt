@@ -1,5 +1,5 @@
 -- A dump whose literals are mapped has the calls, the targets and the loops of the dump.
-use Rattle.std.proofs.Common.{◌≡◌, ◌∙◌, ℕ, List, [], ◌∷◌, Contains, Some, map, inl, inr, ap, sym, subst, slice_get}
+use Rattle.std.proofs.Common.{◌≡◌, ◌∙◌, ℕ, List, [], ◌∷◌, Contains, map, inl, inr, ap, sym, subst}
 use Rattle.std.specs.Option.{option_map}
 use Rattle.std.proofs.lemmas.Option.{slice_get-map}
 use Rattle.basics.proofs.Lists.{map_contains, map_place}

@@ -1,6 +1,9 @@
 pub mod Options
 pub mod DumpLemmas
 pub mod Feeding
+pub mod Division
+pub mod LineBounds
+pub mod CoverLemmas
 pub mod Texts
 pub mod SizeLemmas
 pub mod Refusals
@@ -16,5 +19,7 @@ pub mod SpoofLemmas
 pub mod SpoofCauses
 pub mod NameLemmas
 pub mod HeadlineLemmas
+pub mod Settled
+pub mod CoverCauses
 pub mod Causes
 pub mod Cases

@@ -1,5 +1,5 @@
 -- When verdicts are refused.
-use Rattle.std.proofs.Common.{◌≡◌, ◌∙◌, ◌⊎◌, ◌<◌, ◌≤◌, ℕ, List, [], ◌∷◌, Contains, get_or, length, Some, take, take_all, refl, inl, inr, arith, ap, subst, sym}
+use Rattle.std.proofs.Common.{◌≡◌, ◌⊎◌, ◌<◌, ◌≤◌, ℕ, List, [], ◌∷◌, Contains, get_or, length, Some, take, take_all, refl, inl, inr, arith, subst, sym}
 use Rattle.interval_set.specs.declared.set.Range.{Range}
 use Rattle.primitives.specs.declared.prim.Prim_.{Prim_}
 use Rattle.fw_rule.specs.declared.rule.Dump.{Dump}

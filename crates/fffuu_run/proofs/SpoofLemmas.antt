@@ -1,7 +1,6 @@
 -- Searches that answer stay within their limit, and what a chain's verdicts on claims are.
-use Rattle.std.proofs.Common.{◌≡◌, ◌∙◌, ◌⊎◌, ◌<◌, ◌^◌, ◌-◌, ℕ, List, [], ◌∷◌, ◌++◌, Bool, true, false, ◌&&◌, ◌||◌, append-nil, append_assoc, refl, inl, inr, arith, ap, sym, subst, length, get_or, take, add-one, ◌+◌}
+use Rattle.std.proofs.Common.{◌≡◌, ◌∙◌, ◌<◌, ◌^◌, ◌-◌, ℕ, List, [], ◌∷◌, ◌++◌, ◌||◌, append-nil, append_assoc, refl, inl, inr, arith, ap, sym, subst, length, get_or, take, add-one, ◌+◌}
 use Rattle.std.proofs.Math.Seq.{take-suc}
-use Rattle.std.specs.List.{AllByRecursion}
 use Rattle.std.proofs.lemmas.Bool.Decides.{nat_tests}
 use Rattle.interval_set.specs.declared.set.Range.{Range}
 use Rattle.interval_set.specs.Numbers.{IsWidth, has}
@@ -10,7 +9,6 @@ use Rattle.interval_set.proofs.Lists.{has-snoc}
 use Rattle.interval_set.proofs.Spelling.{or_has, power, spelled, where_ascends, where_has}
 use Rattle.primitives.specs.declared.prim.Packet.{Packet}
 use Rattle.primitives.specs.declared.prim.Prim_.{Prim_}
-use Rattle.primitives.specs.Holds.{IsValid}
 use Rattle.fw_rule.specs.declared.rule.Dump.{Dump}
 use Rattle.fw_rule.specs.declared.rule.Verdict.{Verdict}
 use Rattle.box_norm.specs.declared.cube.SimpleRule.{SimpleRule}
@@ -18,7 +16,7 @@ use Rattle.request.specs.declared.types.Claim.{Claim}
 use Rattle.spoof_check.specs.declared.answers.Spoof.{Spoof}
 use Rattle.spoof_check.specs.Refusals.{IsShown}
 use Rattle.spoof_check.specs.Verdicts.{HoldsWhole, IsForged, IsRight, IsSearched, IsTooLong}
-use Rattle.fffuu_run.specs.Spoofing.{AreVerdicts, HasValidPacket, IsVerdict, set_of, verdict_line}
+use Rattle.fffuu_run.specs.Spoofing.{AreVerdicts, IsVerdict, set_of, verdict_line}
 
 -- a search that answers isn't too long
 pub searched_within : {W : ℕ} (rules : List (SimpleRule W)) (policy : Verdict) (name : List ℕ) (inside : List Range) (verdict : Spoof)

@@ -8,6 +8,7 @@ use Rattle.request.specs.declared.types.Mode.{Mode}
 use Rattle.request.specs.declared.types.Mode.TheVariants as mode
 use Rattle.request.specs.declared.types.Request.{Request}
 use Rattle.fffuu_run.specs.Checks.{Checks, RefusesCheck}
+use Rattle.fffuu_run.specs.Covers.{Covers, RefusesCovers}
 use Rattle.fffuu_run.specs.Explanations.{Explanations, RefusesExplanation}
 use Rattle.fffuu_run.specs.Filters.{Filters, RefusesFilter}
 use Rattle.fffuu_run.specs.Loads.{Loads, RefusesLoad}
@@ -33,6 +34,7 @@ module _ (W : ℕ) (Reads : List ℕ → ℕ → Type 0) (text_of : ℕ → List
   IsOutput (mode.Spoof claims) name text written = Spoofs W Reads text_of claims name text written
   IsOutput (mode.Explain p) name text written = Explanations W Reads name text p written
   IsOutput (mode.Load n) name text written = Loads ipv4_of name n written
+  IsOutput mode.Cover name text written = Covers W Reads text_of name text written
 
   -- why a mode has no output
   abbrev pub RefusesMode : Mode → List ℕ → List ℕ → Status → Type 0
@@ -43,6 +45,7 @@ module _ (W : ℕ) (Reads : List ℕ → ℕ → Type 0) (text_of : ℕ → List
   RefusesMode (mode.Spoof claims) name text s = RefusesSpoofs W Reads text_of claims name text s
   RefusesMode (mode.Explain p) name text s = RefusesExplanation W Reads name text s
   RefusesMode (mode.Load n) name text s = RefusesLoad ipv4_of name n s
+  RefusesMode mode.Cover name text s = RefusesCovers W Reads text_of name text s
 
 -- the stated output over the addresses of a family, IPv6 ones where it is true
 abbrev pub IsOutputIn : Bool → Mode → List ℕ → List ℕ → List ℕ → Type 0

@@ -8,6 +8,7 @@ pub mod Loads
 pub mod Explanations
 pub mod Matrices
 pub mod Spoofing
+pub mod Covers
 pub mod Lines
 pub mod Answers
 pub mod Runs

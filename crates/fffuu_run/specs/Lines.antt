@@ -23,6 +23,7 @@ code_of (status.Unsupported n name) = 9
 code_of (status.CallLoop name) = 10
 code_of (status.Limit k) = 11
 code_of status.Memory = 12
+code_of status.NoDivider = 14
 
 -- the word of a limit
 abbrev pub limit_word : Kind → List ℕ
@@ -47,6 +48,7 @@ line_of asked status.Usage = told (codes "usage: fffuu MODE [--chain NAME] [--fa
 line_of asked status.ReadFault = told (codes "read failed")
 line_of asked status.WriteFault = told (codes "write failed")
 line_of asked status.InputTooLong = told (codes "input is longer than 16777216 bytes")
+line_of asked status.NoDivider = told (codes "no dividing line")
 line_of asked (status.Malformed n) = told (codes "line " ++ decimal n ++ codes ": malformed")
 line_of asked status.NoFilter = told (codes "no filter table")
 line_of asked (status.UndefinedChain n) = told (codes "line " ++ decimal n ++ codes ": undefined chain")

@@ -3,10 +3,11 @@ ghost use Rattle.interval_set.specs.Numbers.{IsWidth};
 ghost use Rattle.limits.specs.declared.TheConstants.{MOST_BYTES};
 ghost use Rattle.request.specs.Requests.{HasBounds, width_of};
 ghost use Rattle.fffuu_run.specs.Answers.{IsAnswer, IsOutput, IsRefusedAs, RefusesMode};
-ghost use Rattle.fffuu_run.specs.inner.Readings.{HoldsOfTexts, WasRead};
+ghost use Rattle.fffuu_run.specs.inner.Readings.{AsksOneDump, HoldsOfTexts, WasRead};
 
 use crate::Status;
 use crate::checking::check_text;
+use crate::covering::cover_text;
 use crate::dumps::{DumpResult, read_text};
 use crate::explaining::explain_text;
 use crate::filtering::filter_text;
@@ -18,7 +19,7 @@ use fw_rule::Side;
 use request::{Mode, Request};
 use std::alloc::Global;
 
-/// The output of a mode over the addresses of a family, for the dump that was read. A load doesn't look at it.
+/// The output of a mode over the addresses of a family, for the one dump that was read. A load doesn't look at it.
 pub fn output<F: Family<W>, const W: u32>(
     alloc: Global,
     request: &Request,
@@ -27,6 +28,7 @@ pub fn output<F: Family<W>, const W: u32>(
     requires width { IsWidth W }
     requires family { width_of request.now.six ≡ W }
     requires bounds { HasBounds request.now.six request.now.mode }
+    requires one { AsksOneDump request.now.mode }
     requires read { WasRead W F.Reads read }
     ensures ok { IfOk result (λ written. HoldsOfTexts W F.Reads read.entry
         (λ text. IsOutput W F.Reads F.text_of request.now.mode request.now.chain text written.items)) }
@@ -42,6 +44,27 @@ pub fn output<F: Family<W>, const W: u32>(
         Mode::Spoof(claims) => spoof_text::<F, W>(alloc, claims.as_slice(), name, read),
         Mode::Load(n) => load_summary(alloc, name, *n),
         Mode::Explain(packet) => explain_text::<F, W>(alloc, name, read, packet),
+        Mode::Cover => unreachable!(),
+    }
+}
+
+/// The output of a mode over the addresses of a family, for a text. A load doesn't look at it.
+pub fn text_output<F: Family<W>, const W: u32>(
+    alloc: Global,
+    request: &Request,
+    text: &[u8],
+) -> Result<Vec<u8>, Status>
+    requires width { IsWidth W }
+    requires family { width_of request.now.six ≡ W }
+    requires bounds { HasBounds request.now.six request.now.mode }
+    requires size { length text.now ≤ MOST_BYTES }
+    ensures ok { IfOk result (λ written. IsOutput W F.Reads F.text_of request.now.mode request.now.chain text.now written.items) }
+    ensures refused { IfErr result (λ s. (s ≡ Status.Memory)
+        ⊎ RefusesMode W F.Reads F.text_of request.now.mode request.now.chain text.now s) }
+{
+    match &request.mode {
+        Mode::Cover => cover_text::<F, W>(alloc, request.chain.as_slice(), text),
+        _ => output::<F, W>(alloc, request, read_text::<F, W>(alloc, text)),
     }
 }
 
@@ -49,7 +72,7 @@ pub fn output<F: Family<W>, const W: u32>(
 ///
 /// # Errors
 ///
-/// The status of a text that has none, from `Malformed` to `Limit`, or `Memory`.
+/// The status of a text that has none, from `NoDivider` to `Limit`, or `Memory`.
 pub fn answer(alloc: Global, request: &Request, text: &[u8]) -> Result<Vec<u8>, Status>
     requires size { length text.now ≤ MOST_BYTES }
     requires bounds { HasBounds request.now.six request.now.mode }
@@ -57,8 +80,8 @@ pub fn answer(alloc: Global, request: &Request, text: &[u8]) -> Result<Vec<u8>, 
     ensures refused { IfErr result (λ s. (s ≡ Status.Memory) ⊎ IsRefusedAs request.now text.now s) }
 {
     if request.six {
-        output::<V6, 128>(alloc, request, read_text::<V6, 128>(alloc, text))
+        text_output::<V6, 128>(alloc, request, text)
     } else {
-        output::<V4, 32>(alloc, request, read_text::<V4, 32>(alloc, text))
+        text_output::<V4, 32>(alloc, request, text)
     }
 }

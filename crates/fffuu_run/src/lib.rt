@@ -4,6 +4,8 @@
 mod answering;
 mod checking;
 mod counting;
+mod covering;
+mod dividing;
 mod dumps;
 mod explaining;
 mod filtering;

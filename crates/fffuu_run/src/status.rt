@@ -24,6 +24,9 @@ pub enum Status {
     /// The input has more than 16,777,216 bytes.
     InputTooLong,
 
+    /// No line of the input is `%%`, where two dumps are asked about.
+    NoDivider,
+
     /// This line, from 1, is the first outside the grammar; the number of lines plus one where a table is open at the end.
     Malformed { line: u32 },
 
@@ -68,6 +71,7 @@ impl Status {
             Status::CallLoop { .. } => 10,
             Status::Limit { .. } => 11,
             Status::Memory => 12,
+            Status::NoDivider => 14,
         }
     }
 }

@@ -86,6 +86,7 @@ fn line_for(alloc: Global, chain: &[u8], status: &Status) -> Result<Line, AllocE
         Status::ReadFault => b"fffuu: read failed\n",
         Status::WriteFault => b"fffuu: write failed\n",
         Status::InputTooLong => b"fffuu: input is longer than 16777216 bytes\n",
+        Status::NoDivider => b"fffuu: no dividing line\n",
         Status::NoFilter => b"fffuu: no filter table\n",
         Status::Limit { kind } => limit_line(*kind),
         Status::Memory => OUT_OF_MEMORY,

@@ -69,7 +69,7 @@ fn answered<S: Source, O: Sink>(
 
 /// Reads the words, then the source to its end, and writes the answer to `out`. A refusal is told in one line on `err`.
 ///
-/// The words are those after the program's name: a mode, `check`, `upper`, `lower`, `matrix`, `spoof`, `explain` or `load`, its
+/// The words are those after the program's name: a mode, `check`, `upper`, `lower`, `matrix`, `spoof`, `explain`, `load` or `cover`, its
 /// arguments, and perhaps `--chain NAME`, `--family 4` or `--family 6`, and for a matrix `--side upper` or `--side lower`. The text has
 /// at most 16,777,216 bytes. The answer to `check` is a line of counts of its filter table. To `upper` it is the text of a filter that
 /// accepts exactly the valid packets that some truth of the unknown matches lets the asked chain accept, and to `lower` one that
@@ -77,12 +77,16 @@ fn answered<S: Source, O: Sink>(
 /// which of them may (or must) be let open the service to which, the tests of interface names counted as unknown. To `spoof`, with
 /// interfaces and the addresses behind each, it is for each of them whether a packet of the state NEW from another source may pass, the
 /// tests of output interfaces counted as unknown. To `explain`, with the fields of a packet, it is one way in which the packet is
-/// accepted and one in which it is dropped. A load reads nothing: its answer is how large the filters of a generated dump are.
+/// accepted and one in which it is dropped. A load reads nothing: its answer is how large the filters of a generated dump are. To
+/// `cover`, whose text is two dumps with a line that is `%%` between them, it is whether the second must accept every valid packet that
+/// the first may accept, or such a packet that it needn't.
 ///
 /// The refusals in their order; each comes only where none before it does:
 /// - `Usage` exactly where the words spell no request. The source stays unread.
 /// - `ReadFault` only in a mode that reads, and only where the source's count of faults rose.
 /// - `InputTooLong` exactly where a mode reads and byte 16,777,217 came before the end. No more than that is taken.
+/// - `NoDivider` exactly where two dumps are asked about and no line is `%%`. Else all refusals of the first come before those of the
+///   second, whose lines count from the beginning of the text.
 /// - `Malformed` exactly where that line is the first outside the grammar.
 /// - `NoFilter` exactly where every line is well formed and no table filter is there.
 /// - `UndefinedChain` exactly where that line is the first rule line of a chain that isn't declared, or whose goto leads to no declared user chain.
@@ -93,6 +97,8 @@ fn answered<S: Source, O: Sink>(
 ///   all modes, then for a filter, a matrix and a verdict on sources the items of the rewritten tree, the literals of its flat list, the
 ///   longest list of cubes and the simple rules, then for a filter the printed lines, for a matrix the boundaries of address sets, for a
 ///   verdict the regions of its search, and for an explanation the visits of rules. For a load each is the greater number of both sides.
+///   For two dumps the numbers of the first are those of side upper, those of the second of side lower, and the regions of the search
+///   come after both.
 /// - `WriteFault` only where the count of `out` rose. Less than the whole answer went out.
 ///
 /// `Memory` may stand in place of each. After a refusal other than `WriteFault` nothing went out.

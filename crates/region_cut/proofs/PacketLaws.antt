@@ -31,7 +31,7 @@ apart_misses cube (c ∷ cs) p v h k = missed (holds_cube c p) (holds_cube cube 
 both_less : (x y a r t : Bool) → x ≡ (a && t) → y ≡ (r && t) → (x || y) ≡ ((a || r) && t)
 both_less x y a r t e f = grind (arith, e, f)
 
-each_holds : {W : ℕ} (cube : Cube W) (regions : List (Cube W)) (p : Packet) → IsValid W p →
+pub each_holds : {W : ℕ} (cube : Cube W) (regions : List (Cube W)) (p : Packet) → IsValid W p →
     any_holds (each_piece (λ c. minus_of c cube) regions) p ≡ (any_holds regions p && not (holds_cube cube p))
 each_holds cube [] p v = refl
 each_holds cube (c ∷ cs) p v =
@@ -142,6 +142,11 @@ region_told region rules policy None told = λ p v h.
 region_told region rules policy (Some p) told =
     (told.0, only_one (holds_cube region p) told.1, some_same (is_accepted rules policy p) true (sym (policy_first rules policy p told.0) ∙ told.2))
 
+-- what is searched to its end tells it, whatever its lists came to
+pub searches_tell : {W : ℕ} (region : Cube W) (rules : List (SimpleRule W)) (policy : Verdict) (answer : Option Packet) → Searches (with_policy rules policy) (region ∷ []) answer →
+    Tells region rules policy answer
+searches_tell region rules policy answer s = region_told region rules policy answer (searched_told (with_policy rules policy) (region ∷ []) answer s)
+
 pub tells : {W : ℕ} (region : Cube W) (rules : List (SimpleRule W)) (policy : Verdict) (answer : Option Packet) → Finds region (with_policy rules policy) answer →
     Tells region rules policy answer
-tells region rules policy answer f = region_told region rules policy answer (searched_told (with_policy rules policy) (region ∷ []) answer f.0)
+tells region rules policy answer f = searches_tell region rules policy answer f.0

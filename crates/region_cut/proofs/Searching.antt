@@ -16,9 +16,9 @@ use Rattle.box_norm.specs.Overlaps.{minus_of}
 use Rattle.box_norm.specs.Regular.{HasStates}
 use Rattle.box_norm.proofs.StateLaws.{minus_states}
 use Rattle.region_cut.specs.declared.fault.RegionFault.{RegionFault}
-use Rattle.region_cut.specs.Search.{AllApart, ComesToMore, Finds, FindsNothing, Here, IsFirstHit, IsTooLarge, Later, Now, Past, RefusesSearch, Searches, Then, left_by, with_policy}
+use Rattle.region_cut.specs.Search.{AllApart, ComesToMore, Finds, FindsNothing, Here, IsFirstHit, IsTooLarge, Later, LeavesMany, Now, Past, RefusesSearch, Searches, Then, left_by, with_policy}
 use Rattle.region_cut.specs.Least.{AreApart}
-use Rattle.region_cut.specs.inner.Hits.{HitsFirst, LeavesMany}
+use Rattle.region_cut.specs.inner.Hits.{HitsFirst}
 use Rattle.region_cut.specs.inner.Misses.{Misses}
 use Rattle.region_cut.proofs.Items.{drop_item}
 use Rattle.region_cut.proofs.LeastLaws.{apart_none}
@@ -50,7 +50,7 @@ pub record Searched {W : ℕ} (region : Cube W) (rules left : List (SimpleRule W
   pub states : AllByRecursion HasStates regions
   pub under : AllByRecursion (IsUnder region) regions
 
-each_states : {W : ℕ} (cube : Cube W) (regions : List (Cube W)) → AllByRecursion HasStates regions → AllByRecursion HasStates (each_piece (λ c. minus_of c cube) regions)
+pub each_states : {W : ℕ} (cube : Cube W) (regions : List (Cube W)) → AllByRecursion HasStates regions → AllByRecursion HasStates (each_piece (λ c. minus_of c cube) regions)
 each_states cube [] h = tt
 each_states cube (c ∷ cs) h = each_append HasStates (minus_of c cube) (each_piece (λ d. minus_of d cube) cs) (minus_states c cube h.0) (each_states cube cs h.1)
 

@@ -28,6 +28,11 @@ module _ {W : ℕ} where
   abbrev pub left_by : SimpleRule W → List (Cube W) → List (Cube W)
   left_by rule regions = if rule.accept then regions else each_piece (λ c. minus_of c rule.cube) regions
 
+  -- the pieces without the cube are too many. Want of memory tells nothing
+  abbrev pub LeavesMany : List (Cube W) → Cube W → RegionFault → Type 0
+  LeavesMany regions cube RegionFault.Regions = MOST_REGIONS < length (each_piece (λ c. minus_of c cube) regions)
+  LeavesMany regions cube RegionFault.Memory = Unit {0}
+
   -- no valid packet of the regions is in the cube
   abbrev pub AllApart : List (Cube W) → Cube W → Type 0
   AllApart regions cube = AllByRecursion (λ region. AreApart region cube) regions

@@ -91,8 +91,8 @@ pub(crate) fn are_apart<const W: u32>(a: &Cube<W>, b: &Cube<W>) -> bool
     are_apart_by_numbers(a, b) || are_apart_by_names(a, b)
 }
 
-/// The same, as what it tells of the two cubes alone.
-pub(crate) fn have_none_common<const W: u32>(a: &Cube<W>, b: &Cube<W>) -> bool
+/// Whether two cubes are found to have nothing in common without building a set. Where they aren't, `Cube::and` tells.
+pub fn have_none_common<const W: u32>(a: &Cube<W>, b: &Cube<W>) -> bool
     ensures { IsTrue result → and_of a.now b.now ≡ None }
 {
     are_apart(a, b)

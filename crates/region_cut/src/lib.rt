@@ -6,5 +6,6 @@ mod fault;
 mod hit;
 mod search;
 
+pub use apart::have_none_common;
 pub use fault::RegionFault;
-pub use search::first_hit;
+pub use search::{first_hit, left_without};

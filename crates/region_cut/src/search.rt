@@ -4,8 +4,7 @@ ghost use Rattle.box_norm.specs.Overlaps.{minus_of};
 ghost use Rattle.box_norm.specs.Regular.{HasStates};
 ghost use Rattle.interval_set.specs.Numbers.{IsWidth};
 ghost use Rattle.limits.specs.declared.TheConstants.{MOST_REGIONS};
-ghost use Rattle.region_cut.specs.inner.Hits.{LeavesMany};
-ghost use Rattle.region_cut.specs.Search.{Finds, RefusesSearch, Tells, with_policy};
+ghost use Rattle.region_cut.specs.Search.{Finds, LeavesMany, RefusesSearch, Tells, with_policy};
 
 use crate::RegionFault;
 use crate::apart::{are_all_apart, are_apart, have_none_common};
@@ -16,9 +15,13 @@ use limits::MOST_REGIONS;
 use primitives::Packet;
 use std::alloc::{AllocError, Global};
 
-/// What a rule that drops the cube leaves of the regions: of each its pieces, or the region itself where the two have
+/// What a rule that takes its cube off leaves of the regions: of each its pieces, or the region itself where the two have
 /// nothing in common.
-fn left_without<const W: u32>(
+///
+/// # Errors
+///
+/// `Regions` exactly where more than 65,536 are left. `Memory` where memory runs out.
+pub fn left_without<const W: u32>(
     alloc: Global,
     regions: Vec<Cube<W>>,
     cube: &Cube<W>,

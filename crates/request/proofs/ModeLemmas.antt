@@ -48,6 +48,7 @@ no_matrix six parts name is none (mode.Explain p) named suits =
     let e : 109 ≡ 101 = first_differs 101 name (codes "matrix") (mode.Explain p) is named refl in absurd (omega (arith, e))
 no_matrix six parts name is none (mode.Load count) named suits =
     let e : 109 ≡ 108 = first_differs 108 name (codes "matrix") (mode.Load count) is named refl in absurd (omega (arith, e))
+no_matrix six parts name is none mode.Cover named suits = let e : 109 ≡ 99 = first_differs 99 name (codes "matrix") mode.Cover is named refl in absurd (omega (arith, e))
 
 -- an option that is told as an error is empty
 pub told_none : {A E : Type 0} (P : Type 0) (o : Option A) (r : Result A E) (e f : E) → IfNone o P → r ≡ ok_or o e → IsErrOf r f → P

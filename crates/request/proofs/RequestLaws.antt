@@ -80,7 +80,8 @@ index_of word = if bytes_eq word (codes "check") then 0
     else if bytes_eq word (codes "matrix") then 3
     else if bytes_eq word (codes "spoof") then 4
     else if bytes_eq word (codes "explain") then 5
-    else 6
+    else if bytes_eq word (codes "load") then 6
+    else 7
 
 index : Mode → ℕ
 index mode.Check = 0
@@ -90,6 +91,7 @@ index (mode.Matrix service side) = 3
 index (mode.Spoof claims) = 4
 index (mode.Explain p) = 5
 index (mode.Load count) = 6
+index mode.Cover = 7
 
 index_is : (m : Mode) → index_of (word_of m) ≡ index m
 unfolding index index_of
@@ -100,6 +102,7 @@ index_is (mode.Matrix service side) = refl
 index_is (mode.Spoof claims) = refl
 index_is (mode.Explain p) = refl
 index_is (mode.Load count) = refl
+index_is mode.Cover = refl
 
 same_index : (m n : Mode) → word_of m ≡ word_of n → index m ≡ index n
 same_index m n e = sym (index_is m) ∙ ap index_of e ∙ index_is n
@@ -135,6 +138,8 @@ mode_once six parts (mode.Spoof claims) (mode.Spoof claims') e a b = ap mode.Spo
 mode_once six parts (mode.Spoof claims) n e a b = let f = same_index (mode.Spoof claims) n e in absurd (omega (arith, f))
 mode_once six parts (mode.Load count) (mode.Load count') e a b = ap mode.Load (load_once parts count count' a b)
 mode_once six parts (mode.Load count) n e a b = let f = same_index (mode.Load count) n e in absurd (omega (arith, f))
+mode_once six parts mode.Cover mode.Cover e a b = refl
+mode_once six parts mode.Cover n e a b = let f = same_index mode.Cover n e in absurd (omega (arith, f))
 
 same_request : (r s : Request) → r.mode ≡ s.mode → r.chain ≡ s.chain → r.six ≡ s.six → r ≡ s
 same_request r s a b c = λ i. record { mode = a i; chain = b i; six = c i }

@@ -45,6 +45,7 @@ word_of (mode.Matrix service side) = codes "matrix"
 word_of (mode.Spoof claims) = codes "spoof"
 word_of (mode.Explain p) = codes "explain"
 word_of (mode.Load count) = codes "load"
+word_of mode.Cover = codes "cover"
 
 -- no arguments and no side
 abbrev pub StandsAlone : Parts → Type 0
@@ -67,6 +68,7 @@ Suits six parts mode.Lower = StandsAlone parts
 Suits six parts (mode.Matrix service side) = AsksMatrix parts service side
 Suits six parts (mode.Spoof claims) = (parts.side ≡ None) × (claims ≢ []) × AreClaims (SaysAddress six) (width_of six) parts.args claims
 Suits six parts (mode.Load count) = AsksLoad parts count
+Suits six parts mode.Cover = StandsAlone parts
 Suits six parts (mode.Explain p) = (parts.side ≡ None) × IsAsked six parts.args p
 
 -- whether addresses are IPv6 ones, by the family's text: IPv4 ones where none is given

@@ -152,6 +152,8 @@ pub fn mode(alloc: Global, name: &str, six: bool, line: &Line<'_>) -> Result<Mod
         explain(alloc, six, line)
     } else if name == "load" {
         load(line).ok_or(SpellFault::Usage)
+    } else if name == "cover" {
+        alone(Mode::Cover, line)
     } else {
         Err(SpellFault::Usage)
     }

@@ -31,6 +31,8 @@ pub enum Mode {
     Explain(Packet),
     /// How large the filters of a generated dump of so many rules are, from 1 to 1000.
     Load(u32),
+    /// Whether the second dump of a text must accept all that the first may accept.
+    Cover,
 }
 
 /// That the addresses behind an interface are these.

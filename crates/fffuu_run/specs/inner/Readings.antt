@@ -3,6 +3,8 @@ use Rattle.std.specs.Prelude.{ℕ, ◌≡◌, ◌⊎◌, List, Result, Some, IfO
 use Rattle.primitives.specs.declared.prim.Prim_.{Prim_}
 use Rattle.fw_rule.specs.declared.rule.Dump.{Dump}
 use Rattle.fw_rule.specs.Calls.{HasRoom}
+use Rattle.request.specs.declared.types.Mode.{Mode}
+use Rattle.request.specs.declared.types.Mode.TheVariants as mode
 use Rattle.request.specs.declared.types.Request.{Request}
 use Rattle.dump_read.specs.declared.fault.ReadFault.{ReadFault}
 use Rattle.dump_read.specs.declared.reading.Reading.{Reading}
@@ -42,6 +44,11 @@ module _ (W : ℕ) (Reads : List ℕ → ℕ → Type 0) where
     abbrev pub IsFed : Reading F W → List ℕ → Type 0
     IsFed reading text = StandsFor W Reads reading text
         ⊎ ((fault : ReadFault) × ((reading.fault ≡ Some fault) × IsEarlyFaultOf W Reads text fault))
+
+-- a mode that asks about one dump
+abbrev pub AsksOneDump : Mode → Type 0
+AsksOneDump mode.Cover = ⊥
+AsksOneDump m = Unit {0}
 
 -- the request is over the addresses of this family: what is answered over them is its answer
 pub record IsOver (request : Request) (W : ℕ) (Reads : List ℕ → ℕ → Type 0) (text_of : ℕ → List ℕ) : Type 0 where

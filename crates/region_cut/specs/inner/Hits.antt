@@ -1,12 +1,9 @@
 -- What the parts of the search answer.
-use Rattle.std.specs.Prelude.{ℕ, ◌≡◌, ◌<◌, false, List, Option, None, Some, length}
-use Rattle.limits.specs.declared.TheConstants.{MOST_REGIONS}
+use Rattle.std.specs.Prelude.{ℕ, ◌≡◌, false, List, Option, None, Some}
 use Rattle.primitives.specs.declared.prim.Packet.{Packet}
 use Rattle.primitives.specs.Holds.{IsValid}
 use Rattle.box_norm.specs.declared.cube.Cube.{Cube}
-use Rattle.box_norm.specs.Cubes.{each_piece, holds_cube}
-use Rattle.box_norm.specs.Overlaps.{minus_of}
-use Rattle.region_cut.specs.declared.fault.RegionFault.{RegionFault}
+use Rattle.box_norm.specs.Cubes.{holds_cube}
 use Rattle.region_cut.specs.Least.{AreApart, IsHit, IsLeastPacket}
 use Rattle.region_cut.specs.Search.{AllApart, IsFirstHit}
 
@@ -25,8 +22,3 @@ module _ {W : ℕ} where
   abbrev pub HitsFirst : List (Cube W) → Cube W → Option Packet → Type 0
   HitsFirst regions cube None = AllApart regions cube
   HitsFirst regions cube (Some p) = IsFirstHit regions cube p
-
-  -- the pieces without the cube are too many. Want of memory tells nothing
-  abbrev pub LeavesMany : List (Cube W) → Cube W → RegionFault → Type 0
-  LeavesMany regions cube RegionFault.Regions = MOST_REGIONS < length (each_piece (λ c. minus_of c cube) regions)
-  LeavesMany regions cube RegionFault.Memory = Unit {0}

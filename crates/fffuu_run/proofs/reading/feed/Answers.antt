@@ -1,6 +1,0 @@
-use Rattle.fffuu_run.proofs.Feeding.{fed_on}
-use Rattle.fffuu_run.proofs.reading.feed.Goals as goal
-
-pub returns : goal.returns
-returns g c = λ text fed. fed_on g.F.Family.Reads c.args.reading.now c.feed.new.self text c.args.piece.now c.feed.result
-    c.feed.ensures.ok c.feed.ensures.fault c.feed.ensures.fails c.feed.ensures.failed fed

@@ -1,0 +1,3 @@
+pub mod AskLemmas
+pub mod MeaningLemmas
+pub mod RunLemmas

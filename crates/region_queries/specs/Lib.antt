@@ -1,0 +1,4 @@
+pub mod Covers
+pub mod Search
+pub mod Refusals
+pub mod inner
