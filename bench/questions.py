@@ -1,5 +1,5 @@
 #!/usr/bin/env python3
-"""Times `matrix`, `spoof` and `load` of the built program on generated dumps, and prints seconds, peak memory and the growth
+"""Times `matrix`, `spoof`, `load` and `cover` of the built program on generated dumps, and prints seconds, peak memory and the growth
 from one size to the next. It asserts nothing.
 
     python3 bench/questions.py [PROGRAM]"""
@@ -44,6 +44,23 @@ def searches(share):
                         for number in range(int(2000 * share))))
 
 
+def itself(text):
+    """Two dumps of this text."""
+    return text + b"%%\n" + text
+
+
+def services(share):
+    """4,000 rules that accept a service from a net of its own, against the same."""
+    return itself(wrapped(*(b"-A FORWARD -s 10.%d.%d.0/24 -p tcp -m tcp --dport %d -j ACCEPT\n" % (n >> 8, n % 256, 1000 + n)
+                            for n in range(int(4000 * share)))))
+
+
+def block_list(share):
+    """20,000 drops by source and an accept behind them, against the same."""
+    return itself(wrapped(*(b"-A FORWARD -s 10.%d.%d.%d/32 -j DROP\n" % (n >> 16, n >> 8 & 255, n % 256) for n in range(int(20000 * share))),
+                          b"-A FORWARD -j ACCEPT\n"))
+
+
 measure([
     ("a generated dump of 1,000 rules", "matrix tcp:1:3", doubtful),
     ("the same", "matrix tcp:1:3 --side lower", doubtful),
@@ -54,4 +71,6 @@ measure([
     ("65,536 pieces, 2,000 accepts that miss", "spoof eth0=9.9.9.9", misses),
     ("65,536 pieces, 2,000 accepts behind drops", "spoof eth0=9.9.9.9", searches),
     ("nothing on standard input", "load 1000", lambda share: HEAD),
+    ("4,000 accepted services against the same", "cover", services),
+    ("20,000 drops and an accept against the same", "cover", block_list),
 ])

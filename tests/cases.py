@@ -368,6 +368,10 @@ def barred_matrix(accepted):
     return "".join(f"{line}\n" for line in [f"classes {len(classes)}", *classes, f"edges {len(edges)}", *edges])
 
 
+FROM_ETH0 = forward("-d 192.168.0.0/16 -i eth0 -j ACCEPT")
+THREE_NAMES = forward("-i ppp0 -j DROP", "-i eth+ -j ACCEPT", "! -i ppp0 -j DROP")
+TO_BR0 = forward("-s 192.168.0.1/32 -o br0 -j ACCEPT")
+
 ONE_PAIR = forward("-s 10.0.0.0/8 -d 192.168.0.1/32 -j ACCEPT")
 LAST_DROPPED = forward("-s 255.255.255.255/32 -j DROP", policy="ACCEPT")
 BY_NAME = forward("-i eth0 -j ACCEPT")
@@ -449,6 +453,32 @@ CASES |= {
     "the loads of a thousand rules": ("load 1000", "", prints("load 1000\nupper rules 5200 lines 5200\nlower rules 70200 lines 135200\n")),
     "a load of more rules": ("load 1001", "", (1, "", USAGE)),
     "a load of an asked chain": ("load 5 --chain A", "", (1, "", USAGE)),
+}
+
+CASES |= {
+    "a matrix with two zones": (
+        "matrix tcp:1:22 eth0=10.0.0.0/8 eth1=192.168.0.0/16", FROM_ETH0,
+        prints("classes 3\n0 0.0.0.0-9.255.255.255,11.0.0.0-192.167.255.255,192.169.0.0-255.255.255.255\n1 10.0.0.0-10.255.255.255\n"
+               "2 192.168.0.0-192.168.255.255\nedges 1\n1 2\n")),
+    "a matrix with two routes": (
+        "matrix tcp:1:22 via:0.0.0.0/0=ppp0 via:10.0.0.0/8=br0", TO_BR0, prints(PAIR_CLASSES + "edges 1\n2 1\n")),
+    "zones that cover all, and a name that none has": (
+        "zones eth0=0.0.0.0/1 eth1=128.0.0.0/1", THREE_NAMES, prints("covered all\nunnamed 1\nppp0\n")),
+    "routes by the longest prefix": (
+        "routes via:0.0.0.0/0=ppp0 via:10.0.0.0/8=br0 via:10.1.0.0/16=ppp0", forward("-s 10.0.0.0/8 -j ACCEPT"),
+        prints("names 2\nppp0 0.0.0.0-9.255.255.255,10.1.0.0-10.1.255.255,11.0.0.0-255.255.255.255\n"
+               "br0 10.0.0.0-10.0.255.255,10.2.0.0-10.255.255.255\nunrouted none\nunnamed 0\n")),
+    "two zones with a common address": ("zones eth0=10.0.0.0/8 eth1=10.1.0.0/16", THREE_NAMES, (1, "", USAGE)),
+    "two zones with one name": ("zones eth0=10.0.0.0/8 eth0=11.0.0.0/8", THREE_NAMES, (1, "", USAGE)),
+    "two zones of a matrix with a common address": ("matrix tcp:1:22 eth0=10.0.0.0/8 eth1=10.1.0.0/16", FROM_ETH0, (1, "", USAGE)),
+    "no zone": ("zones", THREE_NAMES, (1, "", USAGE)),
+    "zones with a side": ("zones eth0=10.0.0.0/8 --side upper", THREE_NAMES, (1, "", USAGE)),
+    "no route": ("routes", TO_BR0, (1, "", USAGE)),
+    "routes with a side": ("routes via:10.0.0.0/8=br0 --side upper", TO_BR0, (1, "", USAGE)),
+    "two routes with one prefix": ("routes via:10.0.0.0/8=br0 via:10.1.2.3/8=ppp0", TO_BR0, (1, "", USAGE)),
+    "two routes of a matrix with one prefix": ("matrix tcp:1:22 via:10.0.0.0/8=br0 via:10.1.2.3/8=ppp0", TO_BR0, (1, "", USAGE)),
+    "a route without a name": ("routes via:10.0.0.0/8=", TO_BR0, (1, "", USAGE)),
+    "a route by a mask": ("routes via:10.0.0.0/255.0.0.0=br0", TO_BR0, (1, "", USAGE)),
 }
 
 # how words are read

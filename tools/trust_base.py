@@ -291,7 +291,7 @@ STREAMS = [Type('fw_io', ('traits',), 'Source'), Type('fw_io', ('traits',), 'Sin
 WORDS = {('request', 'Spells'), ('request', 'chain_in')}
 REFUSALS = {('fffuu_run', it) for it in (
     'IsRefusedAs', 'RefusesModeIn', 'IsWithin', 'IsCheckOver', 'IsExplanationOver', 'IsClosingOver', 'IsFilterOver', 'IsLoadOver', 'IsMatrixOver', 'IsSpoofOver')}
-OTHERS = {('fffuu_run', it) for it in ('Checks', 'Covers', 'Explanations', 'Loads')}
+OTHERS = {('fffuu_run', it) for it in ('Checks', 'Covers', 'Explanations', 'Loads', 'TellsRoutes', 'TellsZones')}
 BYTES = {('fffuu_run', it) for it in ('simple_rules', 'matrix_text', 'verdict_line', 'ipv4_of', 'ipv6_of')} | {('spoof_check', 'IsShown'), ('dump_print', 'printed')}
 
 MEASURES = {

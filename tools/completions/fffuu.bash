@@ -8,10 +8,11 @@ _fffuu() {
     esac
     local words="--chain --family"
     if [ "$COMP_CWORD" -eq 1 ]; then
-        words="check upper lower matrix spoof explain cover load"
+        words="check upper lower matrix spoof zones routes explain cover load"
     else
         case ${COMP_WORDS[1]} in
-            matrix) words="$words --side" ;;
+            matrix) words="$words --side via:"; [[ $word == via:* ]] && compopt -o nospace ;;
+            routes) words="$words via:"; [[ $word == via:* ]] && compopt -o nospace ;;
             explain) words="$words in= out= src= dst= proto= sport= dport= flags= state= icmp="; compopt -o nospace ;;
             load) words="" ;;
         esac

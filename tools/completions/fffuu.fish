@@ -5,6 +5,8 @@ complete -c fffuu -n __fish_use_subcommand -a upper -d 'what may be accepted, as
 complete -c fffuu -n __fish_use_subcommand -a lower -d 'what must be accepted, as a filter'
 complete -c fffuu -n __fish_use_subcommand -a matrix -d 'which addresses may open a service to which'
 complete -c fffuu -n __fish_use_subcommand -a spoof -d 'whether forged sources pass an interface'
+complete -c fffuu -n __fish_use_subcommand -a zones -d 'which sources are in no zone'
+complete -c fffuu -n __fish_use_subcommand -a routes -d 'where destinations go out, and which have no route'
 complete -c fffuu -n __fish_use_subcommand -a explain -d 'what decides one packet'
 complete -c fffuu -n __fish_use_subcommand -a cover -d 'whether one dump lets through no more than another'
 complete -c fffuu -n __fish_use_subcommand -a load -d 'a generated dump, for timing'

@@ -47,7 +47,9 @@ read_or_load : (m : Mode) → IsRead m ⊎ ((n : ℕ) × (m ≡ mode.Load n))
 read_or_load mode.Check = inl tt
 read_or_load mode.Upper = inl tt
 read_or_load mode.Lower = inl tt
-read_or_load (mode.Matrix service side) = inl tt
+read_or_load (mode.Matrix service side zones hops) = inl tt
+read_or_load (mode.Zones claims) = inl tt
+read_or_load (mode.Routes hops) = inl tt
 read_or_load (mode.Spoof claims) = inl tt
 read_or_load (mode.Explain p) = inl tt
 read_or_load (mode.Load n) = inr (n, refl)

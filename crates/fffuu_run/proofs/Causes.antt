@@ -20,6 +20,8 @@ use Rattle.fffuu_run.specs.Explanations.{Explained, IsExplanationOver}
 use Rattle.fffuu_run.specs.Filters.{IsFilterOver, IsPrintedFilter}
 use Rattle.fffuu_run.specs.Loads.{IsLoadOver, load_summary}
 use Rattle.fffuu_run.specs.Matrices.{IsMatrixOver, IsMatrixText}
+use Rattle.fffuu_run.specs.Respecting.{with_spaces}
+use Rattle.fffuu_run.specs.Spaces.{IsRoutesText, IsZonesText}
 use Rattle.fffuu_run.specs.Spoofing.{AreVerdicts, IsSpoofOver}
 use Rattle.fffuu_run.specs.declared.status.Status.{Status}
 use Rattle.fffuu_run.proofs.Settled.{IsRefusal, IsSettled, ReadingLaws, settled}
@@ -50,8 +52,12 @@ module _ (W : ℕ) (Reads : List ℕ → ℕ → Type 0) (laws : ReadingLaws W R
       (λ written dump chain. IsPrintedFilter W Reads text_of Side.Upper name dump chain written)
   mode_settled mode.Lower = settled laws name text (λ dump chain. IsFilterOver text_of Side.Lower name dump chain)
       (λ written dump chain. IsPrintedFilter W Reads text_of Side.Lower name dump chain written)
-  mode_settled (mode.Matrix service side) = settled laws name text (λ dump chain. IsMatrixOver side dump chain)
-      (λ written dump chain. IsMatrixText text_of side service dump chain written)
+  mode_settled (mode.Matrix service side zones hops) = settled laws name text (λ dump chain. IsMatrixOver side (with_spaces zones hops dump) chain)
+      (λ written dump chain. IsMatrixText text_of side service zones hops dump chain written)
+  mode_settled (mode.Zones claims) = settled laws name text (λ dump chain. IsCheckOver dump chain)
+      (λ written dump chain. IsZonesText text_of claims dump chain written)
+  mode_settled (mode.Routes hops) = settled laws name text (λ dump chain. IsCheckOver dump chain)
+      (λ written dump chain. IsRoutesText text_of W hops dump chain written)
   mode_settled (mode.Spoof claims) = settled laws name text (λ dump chain. IsSpoofOver dump chain claims)
       (λ written dump chain. AreVerdicts dump chain text_of claims written)
   mode_settled (mode.Load n) = settled ipv4_laws name (load_text n) (λ dump chain. IsLoadOver ipv4_of name dump chain)

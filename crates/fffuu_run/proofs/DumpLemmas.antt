@@ -160,7 +160,7 @@ target_below names words (Target.Does action) k e (inr (inr (name, j, (spelled, 
 target_below names words Target.Undefined k e is = let wrong : None ≡ Some k = e in absurd (cc)
 
 module _ {W : ℕ} (Reads : Text → ℕ → Type 0) where
-  line_of_rule : (names : List Text) (lines : List Numbered) (rules : List (Placed W)) → AreRuleLines W Reads names lines rules → (p : Placed W) → Contains rules p
+  pub line_of_rule : (names : List Text) (lines : List Numbered) (rules : List (Placed W)) → AreRuleLines W Reads names lines rules → (p : Placed W) → Contains rules p
       → (words : List Word) × IsRuleLine Reads names words p.rule
   line_of_rule names [] [] spells p there = absurd (contains_none p there)
   line_of_rule names [] (q ∷ rules) spells p there = absurd spells

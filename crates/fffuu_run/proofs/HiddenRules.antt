@@ -26,7 +26,7 @@ module _ {P : Type 0} (image : Lit P → Lit P) (dump : Dump P) where
   abbrev other : Dump P
   other = mapped_by image dump
 
-  rule_from : (c : ℕ) (r : Rule P) → RuleOf other c r → (rule : Rule P) × RuleOf dump c rule × (mapped_rule image rule ≡ r)
+  pub rule_from : (c : ℕ) (r : Rule P) → RuleOf other c r → (rule : Rule P) × RuleOf dump c rule × (mapped_rule image rule ≡ r)
   rule_from c r (there, at, inside) =
       let (here, found, is) = map_place (mapped_chain image) dump.chains c there at in
       let (rule, within, same) = map_contains (mapped_rule image) here.rules r (subst (λ (h : _). Contains h.rules r) (sym is) inside) in

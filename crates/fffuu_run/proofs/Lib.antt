@@ -23,3 +23,10 @@ pub mod Settled
 pub mod CoverCauses
 pub mod Causes
 pub mod Cases
+pub mod Once
+pub mod RankLemmas
+pub mod PlainLiterals
+pub mod MappedTwice
+pub mod PlainTests
+pub mod Respecting
+pub mod Carrying

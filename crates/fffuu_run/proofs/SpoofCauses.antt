@@ -18,7 +18,8 @@ use Rattle.spoof_check.specs.Refusals.{HasSearchedRules, RefusesSpoof, searched_
 use Rattle.spoof_check.specs.Verdicts.{IsTooLong}
 use Rattle.fffuu_run.specs.Filters.{IsClosingOver}
 use Rattle.fffuu_run.specs.Questions.{Comes, IsWithin, order_of}
-use Rattle.fffuu_run.specs.Spoofing.{AreVerdicts, IsSpoofOver, IsVerdict, set_of}
+use Rattle.request.specs.Spaces.{set_of}
+use Rattle.fffuu_run.specs.Spoofing.{AreVerdicts, IsSpoofOver, IsVerdict}
 use Rattle.fffuu_run.proofs.Closings.{closing_comes, closing_front, closing_within}
 use Rattle.fffuu_run.proofs.DumpLemmas.{contains_cons, contains_none}
 use Rattle.fffuu_run.proofs.HiddenRules.{comes_from, within_from}

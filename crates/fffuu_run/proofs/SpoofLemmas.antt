@@ -1,42 +1,27 @@
 -- Searches that answer stay within their limit, and what a chain's verdicts on claims are.
-use Rattle.std.proofs.Common.{◌≡◌, ◌∙◌, ◌<◌, ◌^◌, ◌-◌, ℕ, List, [], ◌∷◌, ◌++◌, ◌||◌, append-nil, append_assoc, refl, inl, inr, arith, ap, sym, subst, length, get_or, take, add-one, ◌+◌}
-use Rattle.std.proofs.Math.Seq.{take-suc}
+use Rattle.std.proofs.Common.{◌≡◌, ◌∙◌, ◌<◌, ◌^◌, ℕ, List, [], ◌∷◌, ◌++◌, append-nil, append_assoc, refl, inl, inr, arith, ap, sym, subst, length, get_or, take, ◌+◌}
 use Rattle.std.proofs.lemmas.Bool.Decides.{nat_tests}
 use Rattle.interval_set.specs.declared.set.Range.{Range}
-use Rattle.interval_set.specs.Numbers.{IsWidth, has}
-use Rattle.interval_set.specs.Spelling.{set_or}
-use Rattle.interval_set.proofs.Lists.{has-snoc}
-use Rattle.interval_set.proofs.Spelling.{or_has, power, spelled, where_ascends, where_has}
+use Rattle.interval_set.specs.Numbers.{has}
+use Rattle.interval_set.proofs.Spelling.{where_has}
 use Rattle.primitives.specs.declared.prim.Packet.{Packet}
 use Rattle.primitives.specs.declared.prim.Prim_.{Prim_}
 use Rattle.fw_rule.specs.declared.rule.Dump.{Dump}
 use Rattle.fw_rule.specs.declared.rule.Verdict.{Verdict}
 use Rattle.box_norm.specs.declared.cube.SimpleRule.{SimpleRule}
+use Rattle.request.specs.Spaces.{set_of}
 use Rattle.request.specs.declared.types.Claim.{Claim}
+use Rattle.request.proofs.SpaceLemmas.{take_next}
 use Rattle.spoof_check.specs.declared.answers.Spoof.{Spoof}
 use Rattle.spoof_check.specs.Refusals.{IsShown}
 use Rattle.spoof_check.specs.Verdicts.{HoldsWhole, IsForged, IsRight, IsSearched, IsTooLong}
-use Rattle.fffuu_run.specs.Spoofing.{AreVerdicts, IsVerdict, set_of, verdict_line}
+use Rattle.fffuu_run.specs.Spoofing.{AreVerdicts, IsVerdict, verdict_line}
 
 -- a search that answers isn't too long
 pub searched_within : {W : ℕ} (rules : List (SimpleRule W)) (policy : Verdict) (name : List ℕ) (inside : List Range) (verdict : Spoof)
     → IsSearched rules policy name inside verdict → IsTooLong rules policy name inside → ⊥
 searched_within rules policy name inside Spoof.Holds searched long = elim searched [ inl all ↦ long.0 all | inr found ↦ found.1 long.1 ]
 searched_within rules policy name inside (Spoof.Violated p) searched long = (searched.1).1 long.1
-
--- one range more
-pub no_range : (w : ℕ) → IsWidth w → [] ≡ set_of w []
-no_range w width = spelled w [] (has []) (width, tt) (λ k below. refl)
-
-one_more_range : (w : ℕ) → IsWidth w → (done : List Range) (r : Range) → set_or w (set_of w done) (r ∷ []) ≡ set_of w (done ++ r ∷ [])
-unfolding set_or
-one_more_range w width done r =
-    let p = power w width in
-    spelled w (set_or w (set_of w done) (r ∷ [])) (has (done ++ r ∷ [])) (width, where_ascends (λ n. has (set_of w done) n || has (r ∷ []) n) (2 ^ w) (2 ^ w - 1) (omega (arith, p)))
-    (λ k below. let a = or_has w (set_of w done) (r ∷ []) k in
-    let b = where_has (has done) (2 ^ w) k in
-    let c = has-snoc done r k in
-    grind (arith, nat_tests, a, b, c, below))
 
 -- the addresses inside a claim and their set have the same forged packets
 module _ (w : ℕ) (name : List ℕ) (inside : List Range) (p : Packet) where
@@ -57,16 +42,6 @@ is_verdict {W} dump chain claim Spoof.Holds right whole shown = record {
   shown = shown;
 }
 is_verdict {W} dump chain claim (Spoof.Violated p) right whole shown = record { right = (from_set W claim.name claim.inside p right.0, right.1); whole = tt; shown = shown }
-
--- the items before the next one, and it
-take_next : {A : Type 0} (xs : List A) (i : ℕ) (d : A) → i < length xs → take (i + 1) xs ≡ take i xs ++ get_or xs i d ∷ []
-take_next xs i d below = rw add-one (take-suc xs i d below)
-
-pub next_range : (w : ℕ) → IsWidth w → (ranges : List Range) (i : ℕ) (d : Range) → i < length ranges → (set one next : List Range) → set ≡ set_of w (take i ranges)
-    → one ≡ record { lo = (get_or ranges i d).lo; hi = (get_or ranges i d).hi } ∷ [] → next ≡ set_or w set one → next ≡ set_of w (take (i + 1) ranges)
-next_range w width ranges i d below set one next is one_is next_is =
-    next_is ∙ ap (λ (s : List Range). set_or w s one) is ∙ ap (set_or w (set_of w (take i ranges))) one_is
-    ∙ one_more_range w width (take i ranges) (get_or ranges i d) ∙ ap (set_of w) (sym (take_next ranges i d below))
 
 module _ {W : ℕ} (dump : Dump (Prim_ W)) (chain : ℕ) where
   -- one verdict more

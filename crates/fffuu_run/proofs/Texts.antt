@@ -16,7 +16,9 @@ use Rattle.fffuu_run.specs.declared.status.Status.TheVariants as status
 use Rattle.request.specs.declared.types.Request.{Request}
 use Rattle.fffuu_run.specs.Answers.{IsRefusedAs, RefusesMode}
 use Rattle.fffuu_run.specs.inner.Readings.{HoldsOfTexts, IsOver, IsReadOf, WasRead, status_of}
+use Rattle.fffuu_run.specs.inner.Plain.{HasPlainLiterals}
 use Rattle.fffuu_run.proofs.DumpLemmas.{calls_named}
+use Rattle.fffuu_run.proofs.PlainLiterals.{plain_dump}
 
 module _ {W : ℕ} (Reads : List ℕ → ℕ → Type 0) (read : Result (Dump (Prim_ W)) ReadFault) where
   module _ (dump : Dump (Prim_ W)) (is : read ≡ Ok dump) where
@@ -29,6 +31,9 @@ module _ {W : ℕ} (Reads : List ℕ → ℕ → Type 0) (read : Result (Dump (P
 
     pub has_names : WasRead W Reads read → CallsNameChains dump
     has_names (text, was) = calls_named Reads text dump (is_dump text was)
+
+    pub has_plain : WasRead W Reads read → HasPlainLiterals dump
+    has_plain (text, was) = plain_dump Reads text dump (is_dump text was)
 
     pub has_printable : WasRead W Reads read → IsPrintableDump dump
     has_printable (text, was) = IfOk-at_ok IsPrintableDump is was.printable

@@ -13,6 +13,7 @@ use Rattle.fffuu_run.specs.Explanations.{Explanations, RefusesExplanation}
 use Rattle.fffuu_run.specs.Filters.{Filters, RefusesFilter}
 use Rattle.fffuu_run.specs.Loads.{Loads, RefusesLoad}
 use Rattle.fffuu_run.specs.Matrices.{Matrices, RefusesMatrices}
+use Rattle.fffuu_run.specs.Spaces.{TellsRoutes, TellsZones}
 use Rattle.fffuu_run.specs.Spoofing.{RefusesSpoofs, Spoofs}
 use Rattle.fffuu_run.specs.declared.status.Status.{Status}
 
@@ -30,22 +31,26 @@ module _ (W : ℕ) (Reads : List ℕ → ℕ → Type 0) (text_of : ℕ → List
   IsOutput mode.Check name text written = Checks W Reads name text written
   IsOutput mode.Upper name text written = Filters W Reads text_of Side.Upper name text written
   IsOutput mode.Lower name text written = Filters W Reads text_of Side.Lower name text written
-  IsOutput (mode.Matrix service side) name text written = Matrices W Reads text_of side service name text written
+  IsOutput (mode.Matrix service side zones hops) name text written = Matrices W Reads text_of side service zones hops name text written
   IsOutput (mode.Spoof claims) name text written = Spoofs W Reads text_of claims name text written
   IsOutput (mode.Explain p) name text written = Explanations W Reads name text p written
   IsOutput (mode.Load n) name text written = Loads ipv4_of name n written
   IsOutput mode.Cover name text written = Covers W Reads text_of name text written
+  IsOutput (mode.Zones claims) name text written = TellsZones W Reads text_of name text claims written
+  IsOutput (mode.Routes hops) name text written = TellsRoutes W Reads text_of name text hops written
 
   -- why a mode has no output
   abbrev pub RefusesMode : Mode → List ℕ → List ℕ → Status → Type 0
   RefusesMode mode.Check name text s = RefusesCheck W Reads name text s
   RefusesMode mode.Upper name text s = RefusesFilter W Reads text_of Side.Upper name text s
   RefusesMode mode.Lower name text s = RefusesFilter W Reads text_of Side.Lower name text s
-  RefusesMode (mode.Matrix service side) name text s = RefusesMatrices W Reads text_of side service name text s
+  RefusesMode (mode.Matrix service side zones hops) name text s = RefusesMatrices W Reads text_of side service zones hops name text s
   RefusesMode (mode.Spoof claims) name text s = RefusesSpoofs W Reads text_of claims name text s
   RefusesMode (mode.Explain p) name text s = RefusesExplanation W Reads name text s
   RefusesMode (mode.Load n) name text s = RefusesLoad ipv4_of name n s
   RefusesMode mode.Cover name text s = RefusesCovers W Reads text_of name text s
+  RefusesMode (mode.Zones claims) name text s = RefusesCheck W Reads name text s
+  RefusesMode (mode.Routes hops) name text s = RefusesCheck W Reads name text s
 
 -- the stated output over the addresses of a family, IPv6 ones where it is true
 abbrev pub IsOutputIn : Bool → Mode → List ℕ → List ℕ → List ℕ → Type 0

@@ -6,6 +6,8 @@ pub mod Headline
 pub mod Filters
 pub mod Loads
 pub mod Explanations
+pub mod Respecting
+pub mod Spaces
 pub mod Matrices
 pub mod Spoofing
 pub mod Covers

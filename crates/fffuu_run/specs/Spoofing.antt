@@ -1,8 +1,5 @@
 -- The verdicts on forged sources in a text.
-use Rattle.std.specs.Prelude.{ℕ, ◌^◌, ◌≡◌, List, [], ◌∷◌, ◌++◌, Some, Contains, codes}
-use Rattle.interval_set.specs.declared.set.Range.{Range}
-use Rattle.interval_set.specs.Numbers.{has}
-use Rattle.interval_set.specs.Spelling.{ranges_where}
+use Rattle.std.specs.Prelude.{ℕ, ◌≡◌, List, [], ◌∷◌, ◌++◌, Some, Contains, codes}
 use Rattle.primitives.specs.Holds.{IsValid}
 use Rattle.primitives.specs.declared.prim.Prim_.{Prim_}
 use Rattle.fw_rule.specs.declared.rule.Dump.{Dump}
@@ -11,6 +8,7 @@ use Rattle.fw_rule.specs.Walk.{policy_of}
 use Rattle.fw_rule.specs.declared.side.Side.{Side}
 use Rattle.fw_text.specs.Names.{shown_name}
 use Rattle.fw_text.specs.Packets.{packet_text}
+use Rattle.request.specs.Spaces.{set_of}
 use Rattle.request.specs.declared.types.Claim.{Claim}
 use Rattle.simple_filter.specs.Hidden.{hidden}
 use Rattle.simple_filter.specs.declared.hiding.Hide.{Hide}
@@ -21,10 +19,6 @@ use Rattle.spoof_check.specs.Refusals.{IsShown, searched_rules}
 use Rattle.fffuu_run.specs.Filters.{IsClosingOver}
 use Rattle.fffuu_run.specs.Questions.{Answers, RefusesQuestion}
 use Rattle.fffuu_run.specs.declared.status.Status.{Status}
-
--- the set of w bits of some ranges
-abbrev pub set_of : ℕ → List Range → List Range
-set_of w ranges = ranges_where (has ranges) (2 ^ w)
 
 -- a packet that is shown is one of addresses of w bits
 abbrev pub HasValidPacket : ℕ → Spoof → Type 0

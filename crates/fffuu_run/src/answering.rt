@@ -13,7 +13,9 @@ use crate::explaining::explain_text;
 use crate::filtering::filter_text;
 use crate::loading::load_summary;
 use crate::matrices::matrix_text;
+use crate::routing::routes_text;
 use crate::spoofing::spoof_text;
+use crate::zoning::zones_text;
 use addr_text::{Family, V4, V6};
 use fw_rule::Side;
 use request::{Mode, Request};
@@ -40,10 +42,20 @@ pub fn output<F: Family<W>, const W: u32>(
         Mode::Check => check_text::<F, W>(alloc, name, read),
         Mode::Upper => filter_text::<F, W>(alloc, Side::Upper, name, read),
         Mode::Lower => filter_text::<F, W>(alloc, Side::Lower, name, read),
-        Mode::Matrix { service, side } => matrix_text::<F, W>(alloc, *side, service, name, read),
+        Mode::Matrix {
+            service,
+            side,
+            zones,
+            hops,
+        } => {
+            let (zones, hops) = (zones.as_slice(), hops.as_slice());
+            matrix_text::<F, W>(alloc, *side, service, zones, hops, name, read)
+        }
         Mode::Spoof(claims) => spoof_text::<F, W>(alloc, claims.as_slice(), name, read),
         Mode::Load(n) => load_summary(alloc, name, *n),
         Mode::Explain(packet) => explain_text::<F, W>(alloc, name, read, packet),
+        Mode::Zones(claims) => zones_text::<F, W>(alloc, claims.as_slice(), name, read),
+        Mode::Routes(hops) => routes_text::<F, W>(alloc, hops.as_slice(), name, read),
         Mode::Cover => unreachable!(),
     }
 }

@@ -3,6 +3,7 @@ ghost use Rattle.chain_graph.specs.Paths.{CallsNameChains};
 ghost use Rattle.closure.specs.Checked.{HasPolicy};
 ghost use Rattle.fw_rule.specs.Calls.{HasRoom};
 ghost use Rattle.interval_set.specs.Numbers.{IsWidth};
+ghost use Rattle.request.specs.Requests.{AreSpaces};
 ghost use Rattle.fffuu_run.specs.Questions.{Comes, IsWithin};
 ghost use Rattle.fffuu_run.specs.Matrices.{IsMatrixOver, IsMatrixText, Matrices, RefusesMatrices, class_line, class_lines, edge_count, edge_line, edge_lines, matrix_text, row_lines};
 ghost use Rattle.fffuu_run.specs.inner.Readings.{HoldsOfTexts, WasRead};
@@ -10,22 +11,17 @@ ghost use Rattle.fffuu_run.specs.inner.Readings.{HoldsOfTexts, WasRead};
 use crate::Status;
 use crate::dumps::DumpResult;
 use crate::questions::{AskedChain, question, told};
+use crate::spaces::{append_count, with_spaces};
 use addr_text::Family;
 use fw_rule::{Dump, Side};
 use fw_text::ranges_text;
 use interval_set::Set;
 use match_expr::List;
 use primitives::Prim_;
+use request::{Claim, Hop};
 use service_matrix::{Matrix, Service, matrix};
 use simple_filter::Refusal;
 use std::alloc::{AllocError, Global};
-
-// Appends a line of a word and a number.
-fn append_count(alloc: Global, word: &str, count: u128, out: &mut Vec<u8>) -> Result<(), AllocError>
-    ensures { OnOk result (out.new.items ≡ out.old.items ++ (word.now ++ (codes " " ++ (decimal count ++ 10 ∷ [])))) }
-{
-    out.extend_from_slice(format!(in alloc; "{word} {count}\n")?.as_bytes())
-}
 
 // The line of a class: its number and its ranges.
 fn class_line<F: Family<W>, const W: u32>(
@@ -124,7 +120,7 @@ fn matrix_of<F: Family<W>, const W: u32>(
     requires policy { HasPolicy dump.now chain }
     requires room { HasRoom dump.now }
     requires named { CallsNameChains dump.now }
-    ensures ok { IfOk result (λ written. IsMatrixText F.text_of side service.now dump.now chain written.items) }
+    ensures ok { IfOk result (λ written. IsMatrixText F.text_of side service.now [] [] dump.now chain written.items) }
     ensures within { OnOk result (IsWithin dump.now chain (IsMatrixOver side dump.now chain)) }
     ensures refused { IfErr result (Comes dump.now chain (IsMatrixOver side dump.now chain)) }
 {
@@ -132,24 +128,28 @@ fn matrix_of<F: Family<W>, const W: u32>(
     Ok(text_of::<F, W>(alloc, &found)?)
 }
 
-/// The matrix of a service in the chain of this name of the dump that was read.
+/// The matrix of a service in the chain of this name of the dump that was read, with zones and routes, if there are some.
 pub fn matrix_text<F: Family<W>, const W: u32>(
     alloc: Global,
     side: Side,
     service: &Service,
+    zones: &[Claim],
+    hops: &[Hop],
     name: &[u8],
     read: DumpResult<W>,
 ) -> Result<Vec<u8>, Status>
     requires width { IsWidth W }
     requires read { WasRead W F.Reads read }
+    requires spaces { AreSpaces W zones.now hops.now }
     ensures ok { IfOk result (λ written. HoldsOfTexts W F.Reads read.entry
-        (λ text. Matrices W F.Reads F.text_of side service.now name.now text written.items)) }
-    ensures refused { IfErr result (λ s. (s ≡ Status.Memory)
-        ⊎ HoldsOfTexts W F.Reads read.entry (λ text. RefusesMatrices W F.Reads F.text_of side service.now name.now text s)) }
+        (λ text. Matrices W F.Reads F.text_of side service.now zones.now hops.now name.now text written.items)) }
+    ensures refused { IfErr result (λ s. (s ≡ Status.Memory) ⊎ HoldsOfTexts W F.Reads read.entry
+        (λ text. RefusesMatrices W F.Reads F.text_of side service.now zones.now hops.now name.now text s)) }
 {
     let AskedChain { dump, chain, .. } = question::<F, W>(name, read)?;
-    match matrix_of::<F, W>(alloc, &dump, chain, side, service) {
+    let other = with_spaces(alloc, dump, zones, hops)?;
+    match matrix_of::<F, W>(alloc, &other, chain, side, service) {
         Ok(written) => Ok(written),
-        Err(refusal) => Err(told(alloc, &dump, refusal)),
+        Err(refusal) => Err(told(alloc, &other, refusal)),
     }
 }

@@ -4,6 +4,7 @@ ghost use Rattle.dump_read.specs.Answers.{IsPrintableDump};
 ghost use Rattle.fw_rule.specs.Walk.{HasRoom, policy_of};
 ghost use Rattle.fffuu_run.specs.Headline.{IsChain};
 ghost use Rattle.fffuu_run.specs.Questions.{AsksChain, HasNoChain, IsToldAs, asked_chain};
+ghost use Rattle.fffuu_run.specs.inner.Plain.{HasPlainLiterals};
 ghost use Rattle.fffuu_run.specs.inner.Readings.{HoldsOfTexts, WasRead};
 
 use crate::Status;
@@ -47,6 +48,7 @@ pub fn question<F: Family<W>, const W: u32>(
     ensures room { IfOk result (λ q. HasRoom q.dump) }
     ensures named { IfOk result (λ q. CallsNameChains q.dump) }
     ensures printable { IfOk result (λ q. IsPrintableDump q.dump) }
+    ensures plain { IfOk result (λ q. HasPlainLiterals q.dump) }
     ensures refused { IfErr result (λ s. (s ≡ Status.Memory)
         ⊎ HoldsOfTexts W F.Reads read.entry (λ text. HasNoChain W F.Reads name.now text s)) }
 {

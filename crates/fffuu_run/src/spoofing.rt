@@ -5,7 +5,7 @@ ghost use Rattle.fw_rule.specs.Walk.{HasRoom, policy_of};
 ghost use Rattle.interval_set.specs.Numbers.{IsWidth};
 ghost use Rattle.primitives.specs.Ranges.{IsRange};
 ghost use Rattle.fffuu_run.specs.Questions.{Comes, IsWithin};
-ghost use Rattle.fffuu_run.specs.Spoofing.{AreVerdicts, HasValidPacket, IsSpoofOver, RefusesSpoofs, Spoofs, set_of, verdict_line};
+ghost use Rattle.fffuu_run.specs.Spoofing.{AreVerdicts, HasValidPacket, IsSpoofOver, RefusesSpoofs, Spoofs, verdict_line};
 ghost use Rattle.fffuu_run.specs.inner.Readings.{HoldsOfTexts, WasRead};
 
 use crate::Status;
@@ -14,25 +14,11 @@ use crate::questions::{AskedChain, question, told};
 use addr_text::Family;
 use fw_rule::{Dump, Verdict};
 use fw_text::{packet_text, shown};
-use interval_set::{Range, Set};
 use primitives::Prim_;
-use request::Claim;
+use request::{Claim, set_of};
 use simple_filter::Refusal;
 use spoof_check::{Spoof, searched_rules, verdict};
 use std::alloc::{AllocError, Global};
-
-// The set of some ranges.
-fn set_of<const W: u32>(alloc: Global, ranges: &[Range]) -> Result<Set<W>, AllocError>
-    requires width { IsWidth W }
-    requires ranges { AllByRecursion (IsRange W) ranges.now }
-    ensures { IfOk result (λ set. set ≡ set_of W ranges.now) }
-{
-    let mut set = Set::empty(alloc);
-    for range in ranges {
-        set = set.or(alloc, &Set::range(alloc, range.lo, range.hi)?)?;
-    }
-    Ok(set)
-}
 
 // The line of a verdict on the interface of this name.
 fn verdict_line<F: Family<W>, const W: u32>(

@@ -1,3 +1,11 @@
 pub mod AskLemmas
+pub mod CheckedLemmas
+pub mod DeadLemmas
+pub mod GraphLemmas
+pub mod LiftLemmas
 pub mod MeaningLemmas
+pub mod PlaceLemmas
+pub mod ProbeLemmas
 pub mod RunLemmas
+pub mod VisitLemmas
+pub mod WalkLemmas

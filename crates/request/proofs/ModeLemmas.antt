@@ -1,28 +1,46 @@
 -- Arguments that are no mode's.
-use Rattle.std.proofs.Common.{◌≡◌, ◌≢◌, ◌∙◌, ◌==◌, ℕ, List, [], ◌∷◌, Bool, false, Option, None, Some, Bor, IfNone, refl, sym, ap, subst, map, length, get_or, arith, codes, decimal}
-use Rattle.std.specs.List.{AllZip}
-use Rattle.std.specs.Option.{ok_or}
-use Rattle.std.specs.Prelude.{Err, IfOk, Ok, Result}
-use Rattle.std.specs.Result.{IsErrOf}
+use Rattle.std.proofs.Common.{◌≡◌, ◌≢◌, ◌∙◌, ◌==◌, ℕ, List, [], ◌∷◌, Bool, false, Bor, sym, subst, map, length, arith, decimal}
+use Rattle.std.specs.List.{AllZip, filter}
+use Rattle.std.specs.Prelude.{Err, IfOk, Ok, Result, not}
 use Rattle.std.proofs.lemmas.Bool.Decides.{nat_tests}
 use Rattle.std.proofs.lemmas.Fmt.{decimal_injective}
 use Rattle.fw_rule.specs.declared.side.Side.{Side}
 use Rattle.service_packet.specs.declared.service.Service.{Service}
-use Rattle.request.specs.Arguments.{IsService}
+use Rattle.iface_space.specs.declared.hop.Hop.{Hop}
+use Rattle.request.specs.Arguments.{IsService, SpellRoutes, SpellZones, is_route}
+use Rattle.request.specs.Fields.{SaysAddress}
 use Rattle.request.specs.declared.types.Claim.{Claim}
 use Rattle.request.specs.declared.types.Mode.{Mode}
 use Rattle.request.specs.declared.types.Mode.TheVariants as mode
 use Rattle.request.specs.declared.types.SpellFault.{SpellFault}
-use Rattle.request.specs.Requests.{HasBounds, AsksLoad, AsksMatrix, Parts, Suits, word_of}
+use Rattle.request.specs.Requests.{HasBounds, AsksLoad, AsksMatrix, Parts, Suits, width_of}
 use Rattle.request.proofs.ClaimLemmas.{claims_bound}
+use Rattle.request.proofs.RouteLemmas.{hops_bound}
 
--- an argument that is no service
-pub no_service : (parts : Parts) (text bytes : List ℕ) → parts.args ≡ text ∷ [] → bytes ≡ text → ((service : Service) → IsService bytes service → ⊥)
-    → (service : Service) (side : Side) → AsksMatrix parts service side → ⊥
-no_service parts text bytes one is none service side (arg, (args, spelled, chosen)) =
-    let e : text ∷ [] ≡ arg ∷ [] = sym one ∙ args in
-    let same : arg ≡ bytes = cc in
-    none service (subst (λ (t : List ℕ). IsService t service) same spelled)
+module _ (six : Bool) (parts : Parts) (service : Service) (side : Side) (zones : List Claim) (hops : List Hop)
+    (asks : AsksMatrix six parts service side zones hops) where
+  -- a matrix has arguments
+  pub no_arguments : parts.args ≡ [] → ⊥
+  no_arguments none = let e : [] ≡ asks.first ∷ asks.rest = sym none ∙ asks.args_are in cc
+
+  module _ (first : List ℕ) (rest : List (List ℕ)) (args : parts.args ≡ first ∷ rest) where
+    split : asks.first ∷ asks.rest ≡ first ∷ rest
+    split = sym asks.args_are ∙ args
+
+    -- of which the first is the service
+    pub service_there : IsService first service
+    service_there = let same : asks.first ≡ first = let e = split in cc in subst (λ (t : List ℕ). IsService t service) same asks.service_is
+
+    rest_is : asks.rest ≡ rest
+    rest_is = let e = split in cc
+
+    -- and the others are zones
+    pub zones_there : SpellZones (SaysAddress six) (width_of six) (filter (λ text. not (is_route text)) rest) zones
+    zones_there = subst (λ (ts : List (List ℕ)). SpellZones (SaysAddress six) (width_of six) (filter (λ text. not (is_route text)) ts) zones) rest_is asks.zones_are
+
+    -- and routes
+    pub routes_there : SpellRoutes (SaysAddress six) (width_of six) (filter is_route rest) hops
+    routes_there = subst (λ (ts : List (List ℕ)). SpellRoutes (SaysAddress six) (width_of six) (filter is_route ts) hops) rest_is asks.routes_are
 
 -- a load of no rules
 pub no_rules : (parts : Parts) (text : List ℕ) (n : ℕ) → parts.args ≡ text ∷ [] → text ≡ decimal n → n ≡ 0 → (count : ℕ) → AsksLoad parts count → ⊥
@@ -31,29 +49,6 @@ no_rules parts text n one is zero count (low, high, args, side, chain, family) =
     let same : decimal count ≡ decimal n = cc in
     let number : count ≡ n = decimal_injective count n (omega (arith, high)) (omega (arith, zero)) same in
     omega (arith, number, zero, low)
-
-first_differs : (n : ℕ) (name word : List ℕ) (m : Mode) → name ≡ word → name ≡ word_of m → get_or (word_of m) 0 0 ≡ n → get_or word 0 0 ≡ n
-first_differs n name word m is named first = ap (λ (t : List ℕ). get_or t 0 0) (sym is ∙ named) ∙ first
-
--- where the arguments are no matrix, they are no mode of that name
-pub no_matrix : (six : Bool) (parts : Parts) (name : List ℕ) → name ≡ codes "matrix" → ((service : Service) (side : Side) → AsksMatrix parts service side → ⊥)
-    → (m : Mode) → name ≡ word_of m → Suits six parts m → ⊥
-no_matrix six parts name is none (mode.Matrix service side) named suits = none service side suits
-no_matrix six parts name is none mode.Check named suits = let e : 109 ≡ 99 = first_differs 99 name (codes "matrix") mode.Check is named refl in absurd (omega (arith, e))
-no_matrix six parts name is none mode.Upper named suits = let e : 109 ≡ 117 = first_differs 117 name (codes "matrix") mode.Upper is named refl in absurd (omega (arith, e))
-no_matrix six parts name is none mode.Lower named suits = let e : 109 ≡ 108 = first_differs 108 name (codes "matrix") mode.Lower is named refl in absurd (omega (arith, e))
-no_matrix six parts name is none (mode.Spoof claims) named suits =
-    let e : 109 ≡ 115 = first_differs 115 name (codes "matrix") (mode.Spoof claims) is named refl in absurd (omega (arith, e))
-no_matrix six parts name is none (mode.Explain p) named suits =
-    let e : 109 ≡ 101 = first_differs 101 name (codes "matrix") (mode.Explain p) is named refl in absurd (omega (arith, e))
-no_matrix six parts name is none (mode.Load count) named suits =
-    let e : 109 ≡ 108 = first_differs 108 name (codes "matrix") (mode.Load count) is named refl in absurd (omega (arith, e))
-no_matrix six parts name is none mode.Cover named suits = let e : 109 ≡ 99 = first_differs 99 name (codes "matrix") mode.Cover is named refl in absurd (omega (arith, e))
-
--- an option that is told as an error is empty
-pub told_none : {A E : Type 0} (P : Type 0) (o : Option A) (r : Result A E) (e f : E) → IfNone o P → r ≡ ok_or o e → IsErrOf r f → P
-told_none P None r e f none is told = none
-told_none P (Some x) r e f none is told = let h : Ok x ≡ Err f = sym is ∙ told in absurd (cc)
 
 not_none : (b : Bool) (n : ℕ) → b ≡ (n == 0) → b ≡ false → 0 ≡ n → ⊥
 not_none b n test off none = grind (arith, nat_tests, test, off, none)
@@ -72,3 +67,37 @@ spoof_bound six parts (Ok m) (claims, is, suits) =
     let own : Suits six parts (mode.Spoof claims) = subst (Suits six parts) is suits in
     subst (HasBounds six) (sym is) (claims_bound six parts.args claims own.2)
 spoof_bound six parts (Err e) h = tt
+
+pub zones_bound : (six : Bool) (parts : Parts) (r : Result Mode SpellFault) → IfOk r (λ m. (claims : List Claim) × (m ≡ mode.Zones claims) × Suits six parts m)
+    → IfOk r (HasBounds six)
+zones_bound six parts (Ok m) (claims, is, suits) =
+    let own : Suits six parts (mode.Zones claims) = subst (Suits six parts) is suits in
+    subst (HasBounds six) (sym is) (claims_bound six parts.args claims own.2.0, own.2.1)
+zones_bound six parts (Err e) h = tt
+
+-- so have routes addresses
+pub routes_bound : (six : Bool) (parts : Parts) (r : Result Mode SpellFault) → IfOk r (λ m. (hops : List Hop) × (m ≡ mode.Routes hops) × Suits six parts m)
+    → IfOk r (HasBounds six)
+routes_bound six parts (Ok m) (hops, is, suits) =
+    let own : Suits six parts (mode.Routes hops) = subst (Suits six parts) is suits in
+    subst (HasBounds six) (sym is) (hops_bound six parts.args hops own.2.0, own.2.1)
+routes_bound six parts (Err e) h = tt
+
+-- and what a matrix has of both
+pub matrix_bound : (six : Bool) (parts : Parts) (r : Result Mode SpellFault)
+    → IfOk r (λ m. (service : Service) × (side : Side) × (zones : List Claim) × (hops : List Hop) × (m ≡ mode.Matrix service side zones hops)
+    × AsksMatrix six parts service side zones hops) → IfOk r (HasBounds six)
+matrix_bound six parts (Ok m) (service, side, zones, hops, is, asks) = subst (HasBounds six) (sym is) (record {
+  ranges = claims_bound six (filter (λ text. not (is_route text)) asks.rest) zones asks.zones_are.0;
+  zones_are = asks.zones_are.1;
+  hops_are = hops_bound six (filter is_route asks.rest) hops asks.routes_are.0;
+  prefixes = asks.routes_are.1;
+})
+matrix_bound six parts (Err e) h = tt
+
+-- and each suits its mode
+pub matrix_suits : (six : Bool) (parts : Parts) (r : Result Mode SpellFault)
+    → IfOk r (λ m. (service : Service) × (side : Side) × (zones : List Claim) × (hops : List Hop) × (m ≡ mode.Matrix service side zones hops)
+    × AsksMatrix six parts service side zones hops) → IfOk r (Suits six parts)
+matrix_suits six parts (Ok m) (service, side, zones, hops, is, asks) = subst (Suits six parts) (sym is) asks
+matrix_suits six parts (Err e) h = tt

@@ -1,5 +1,6 @@
 -- Words spell one request at most.
-use Rattle.std.proofs.Common.{◌≡◌, ◌∙◌, ℕ, List, [], ◌∷◌, Bool, true, false, Some, refl, sym, ap, subst, arith, codes, decimal}
+use Rattle.std.proofs.Common.{◌≡◌, ◌∙◌, ℕ, List, [], ◌∷◌, Bool, true, false, not, Some, refl, sym, ap, subst, arith, codes, decimal}
+use Rattle.std.specs.List.{AllZip, filter}
 use Rattle.std.specs.Prelude.{if◌then◌else◌}
 use Rattle.std.specs.Str.{bytes_eq}
 use Rattle.std.proofs.lemmas.Fmt.{decimal_injective}
@@ -10,13 +11,16 @@ use Rattle.primitives.specs.declared.prim.Packet.{Packet}
 use Rattle.primitives.specs.Words.{SpellsFlags, SpellsProto}
 use Rattle.clap.specs.Words.{Text}
 use Rattle.service_packet.specs.declared.service.Service.{Service}
+use Rattle.iface_space.specs.declared.hop.Hop.{Hop}
+use Rattle.request.specs.declared.types.Claim.{Claim}
 use Rattle.request.specs.declared.types.Mode.{Mode}
 use Rattle.request.specs.declared.types.Mode.TheVariants as mode
 use Rattle.request.specs.declared.types.Request.{Request}
-use Rattle.request.specs.Arguments.{IsService}
+use Rattle.request.specs.Arguments.{AreClaims, IsRoute, IsService, is_route}
 use Rattle.request.specs.Fields.{Given, IsAsked, SaysAddress, SaysName, SaysPort, SaysState, SaysType}
-use Rattle.request.specs.Requests.{Asks, AsksLoad, AsksMatrix, Parts, Spells, Suits, word_of}
+use Rattle.request.specs.Requests.{Asks, AsksLoad, AsksMatrix, Parts, Spells, Suits, width_of, word_of}
 use Rattle.request.proofs.ClaimLemmas.{claims_once}
+use Rattle.request.proofs.RouteLemmas.{hops_once}
 use Rattle.request.proofs.ServiceLemmas.{port_once, service_once, side_once}
 use Rattle.primitives.proofs.WordLemmas.{flags_once, proto_once}
 
@@ -81,39 +85,51 @@ index_of word = if bytes_eq word (codes "check") then 0
     else if bytes_eq word (codes "spoof") then 4
     else if bytes_eq word (codes "explain") then 5
     else if bytes_eq word (codes "load") then 6
-    else 7
+    else if bytes_eq word (codes "cover") then 7
+    else if bytes_eq word (codes "zones") then 8
+    else 9
 
 index : Mode → ℕ
 index mode.Check = 0
 index mode.Upper = 1
 index mode.Lower = 2
-index (mode.Matrix service side) = 3
+index (mode.Matrix service side zones hops) = 3
 index (mode.Spoof claims) = 4
 index (mode.Explain p) = 5
 index (mode.Load count) = 6
 index mode.Cover = 7
+index (mode.Zones claims) = 8
+index (mode.Routes hops) = 9
 
 index_is : (m : Mode) → index_of (word_of m) ≡ index m
 unfolding index index_of
 index_is mode.Check = refl
 index_is mode.Upper = refl
 index_is mode.Lower = refl
-index_is (mode.Matrix service side) = refl
+index_is (mode.Matrix service side zones hops) = refl
 index_is (mode.Spoof claims) = refl
 index_is (mode.Explain p) = refl
 index_is (mode.Load count) = refl
 index_is mode.Cover = refl
+index_is (mode.Zones claims) = refl
+index_is (mode.Routes hops) = refl
 
 same_index : (m n : Mode) → word_of m ≡ word_of n → index m ≡ index n
 same_index m n e = sym (index_is m) ∙ ap index_of e ∙ index_is n
 
--- the one argument is one service, and the side is one
-matrix_once : (parts : Parts) (a b : Service) (x y : Side) → AsksMatrix parts a x → AsksMatrix parts b y → mode.Matrix a x ≡ mode.Matrix b y
-matrix_once parts a b x y (arg, (is, p, side)) (arg', (is', q, side')) =
-    let args : arg ∷ [] ≡ arg' ∷ [] = sym is ∙ is' in
-    let same : arg' ≡ arg = cc in
-    let service : a ≡ b = service_once arg a b p (subst (λ (t : Text). IsService t b) same q) in
-    let sides : x ≡ y = side_once parts.side x y side side' in
+-- the first argument is one service, the others are zones and routes in one way, and the side is one
+matrix_once : (six : Bool) (parts : Parts) (a b : Service) (x y : Side) (zones zones' : List Claim) (hops hops' : List Hop)
+    → AsksMatrix six parts a x zones hops → AsksMatrix six parts b y zones' hops' → mode.Matrix a x zones hops ≡ mode.Matrix b y zones' hops'
+matrix_once six parts a b x y zones zones' hops hops' p q =
+    let args : p.first ∷ p.rest ≡ q.first ∷ q.rest = sym p.args_are ∙ q.args_are in
+    let same : q.first ≡ p.first = cc in
+    let others : q.rest ≡ p.rest = cc in
+    let service : a ≡ b = service_once p.first a b p.service_is (subst (λ (t : Text). IsService t b) same q.service_is) in
+    let sides : x ≡ y = side_once parts.side x y p.side_is q.side_is in
+    let inside : zones ≡ zones' = claims_once six (filter (λ text. not (is_route text)) p.rest) zones zones' p.zones_are.0
+    (subst (λ (ts : List Text). AreClaims (SaysAddress six) (width_of six) (filter (λ text. not (is_route text)) ts) zones') others q.zones_are.0) in
+    let ways : hops ≡ hops' = hops_once six (filter is_route p.rest) hops hops' p.routes_are.0
+    (subst (λ (ts : List Text). AllZip (IsRoute (SaysAddress six) (width_of six)) (filter is_route ts) hops') others q.routes_are.0) in
     cc
 
 load_once : (parts : Parts) (m n : ℕ) → AsksLoad parts m → AsksLoad parts n → m ≡ n
@@ -132,14 +148,19 @@ mode_once six parts mode.Lower mode.Lower e a b = refl
 mode_once six parts mode.Lower n e a b = let f = same_index mode.Lower n e in absurd (omega (arith, f))
 mode_once six parts (mode.Explain p) (mode.Explain q) e a b = ap mode.Explain (packet_once six parts.args p q a.1 b.1)
 mode_once six parts (mode.Explain p) n e a b = let f = same_index (mode.Explain p) n e in absurd (omega (arith, f))
-mode_once six parts (mode.Matrix service side) (mode.Matrix service' side') e a b = matrix_once parts service service' side side' a b
-mode_once six parts (mode.Matrix service side) n e a b = let f = same_index (mode.Matrix service side) n e in absurd (omega (arith, f))
+mode_once six parts (mode.Matrix service side zones hops) (mode.Matrix service' side' zones' hops') e a b =
+    matrix_once six parts service service' side side' zones zones' hops hops' a b
+mode_once six parts (mode.Matrix service side zones hops) n e a b = let f = same_index (mode.Matrix service side zones hops) n e in absurd (omega (arith, f))
 mode_once six parts (mode.Spoof claims) (mode.Spoof claims') e a b = ap mode.Spoof (claims_once six parts.args claims claims' a.2 b.2)
 mode_once six parts (mode.Spoof claims) n e a b = let f = same_index (mode.Spoof claims) n e in absurd (omega (arith, f))
 mode_once six parts (mode.Load count) (mode.Load count') e a b = ap mode.Load (load_once parts count count' a b)
 mode_once six parts (mode.Load count) n e a b = let f = same_index (mode.Load count) n e in absurd (omega (arith, f))
 mode_once six parts mode.Cover mode.Cover e a b = refl
 mode_once six parts mode.Cover n e a b = let f = same_index mode.Cover n e in absurd (omega (arith, f))
+mode_once six parts (mode.Zones claims) (mode.Zones claims') e a b = ap mode.Zones (claims_once six parts.args claims claims' a.2.0 b.2.0)
+mode_once six parts (mode.Zones claims) n e a b = let f = same_index (mode.Zones claims) n e in absurd (omega (arith, f))
+mode_once six parts (mode.Routes hops) (mode.Routes hops') e a b = ap mode.Routes (hops_once six parts.args hops hops' a.2.0 b.2.0)
+mode_once six parts (mode.Routes hops) n e a b = let f = same_index (mode.Routes hops) n e in absurd (omega (arith, f))
 
 same_request : (r s : Request) → r.mode ≡ s.mode → r.chain ≡ s.chain → r.six ≡ s.six → r ≡ s
 same_request r s a b c = λ i. record { mode = a i; chain = b i; six = c i }

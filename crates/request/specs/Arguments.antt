@@ -1,6 +1,6 @@
 -- The arguments of a matrix, of a check of sources and of a load.
-use Rattle.std.specs.Prelude.{ℕ, ◌≡◌, ◌≢◌, ◌≤◌, ◌⊎◌, List, [], ◌∷◌, ◌++◌, Option, None, Some, codes, decimal}
-use Rattle.std.specs.List.{AllZip}
+use Rattle.std.specs.Prelude.{ℕ, ◌≡◌, ◌≢◌, ◌≤◌, ◌⊎◌, ◌==◌, Bool, List, [], ◌∷◌, ◌++◌, Option, None, Some, codes, decimal}
+use Rattle.std.specs.List.{AllZip, starts_with}
 use Rattle.interval_set.specs.declared.set.Range.{Range}
 use Rattle.interval_set.specs.Prefix.{prefix_range}
 use Rattle.addr_text.specs.Nets.{IsRangeText}
@@ -9,6 +9,8 @@ use Rattle.primitives.specs.Words.{SpellsProto}
 use Rattle.fw_rule.specs.declared.side.Side.{Side}
 use Rattle.service_packet.specs.declared.service.Service.{Service}
 use Rattle.request.specs.Fields.{SaysPort}
+use Rattle.iface_space.specs.declared.hop.Hop.{Hop}
+use Rattle.request.specs.Spaces.{AreZones, HavePrefixes}
 use Rattle.request.specs.declared.types.Claim.{Claim}
 
 -- PROTO:SPORT:DPORT, a protocol's name or number and two ports
@@ -28,10 +30,13 @@ module _ (Reads : List ℕ → ℕ → Type 0) (W : ℕ) where
   abbrev pub IsAlone : List ℕ → Range → Type 0
   IsAlone text r = (address : ℕ) × (Reads text address × (r ≡ record { lo = address; hi = address }))
 
-  -- ADDRESS/LENGTH: the addresses that agree with this one in so many bits. The length is a number and no mask
+  -- ADDRESS/LENGTH. The length is a number and no mask
+  abbrev pub IsPrefixOf : List ℕ → ℕ → ℕ → Type 0
+  IsPrefixOf text address len = (front : List ℕ) × ((text ≡ front ++ (codes "/" ++ decimal len)) × Reads front address × (len ≤ W))
+
+  -- the addresses that agree with this one in so many bits
   abbrev pub IsPrefixText : List ℕ → Range → Type 0
-  IsPrefixText text r = (front : List ℕ) × (address len : ℕ) × ((text ≡ front ++ (codes "/" ++ decimal len)) × Reads front address × (len ≤ W)
-      × (r ≡ prefix_range W address len))
+  IsPrefixText text r = (address len : ℕ) × IsPrefixOf text address len × (r ≡ prefix_range W address len)
 
   -- a part of a set: an address, a prefix, or FIRST-LAST
   abbrev pub IsPart : List ℕ → Range → Type 0
@@ -48,3 +53,27 @@ module _ (Reads : List ℕ → ℕ → Type 0) (W : ℕ) where
   -- each text is the claim beside it
   abbrev pub AreClaims : List (List ℕ) → List Claim → Type 0
   AreClaims texts claims = AllZip IsClaim texts claims
+
+  -- ADDRESS/LENGTH, or an address alone, of which all bits count
+  abbrev pub IsNet : List ℕ → ℕ → ℕ → Type 0
+  IsNet text address len = IsPrefixOf text address len ⊎ (Reads text address × (len ≡ W))
+
+  -- via:NET=NAME: the net up to the first `=`, and the name, which isn't empty and is taken as it stands
+  pub record IsRoute (text : List ℕ) (hop : Hop) : Type 0 where
+    pub net : List ℕ
+    pub parted : text ≡ codes "via:" ++ (net ++ (61 ∷ hop.name))
+    pub first : Lacks 61 net
+    pub named : hop.name ≢ []
+    pub is_net : IsNet net hop.value hop.len
+
+  -- each text is the claim beside it, and no two of them have one name or a common address
+  abbrev pub SpellZones : List (List ℕ) → List Claim → Type 0
+  SpellZones texts claims = AreClaims texts claims × AreZones W claims
+
+  -- each text is the route beside it, and no two of them have the same prefix
+  abbrev pub SpellRoutes : List (List ℕ) → List Hop → Type 0
+  SpellRoutes texts hops = AllZip IsRoute texts hops × HavePrefixes W hops
+
+-- whether an argument is a route
+abbrev pub is_route : List ℕ → Bool
+is_route text = starts_with (λ a b. a == b) text (codes "via:")

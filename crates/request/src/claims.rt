@@ -1,14 +1,14 @@
-ghost use Rattle.std.specs.Prelude.{◌≡◌, ◌<◌, ◌≤◌, ◌^◌, ◌==◌, map, IfOk, IfSome, IfNone, IsErrOf, List as ListOf};
+ghost use Rattle.std.specs.Prelude.{◌≡◌, ◌<◌, ◌≤◌, ◌^◌, ◌==◌, map, IfOk, IfSome, IfNone, IsErrOf, ℕ, List as ListOf};
 ghost use Rattle.std.specs.List.{AllZip};
 ghost use Rattle.basics.specs.Parts.{comma_parts};
 ghost use Rattle.interval_set.specs.Numbers.{IsWidth};
-ghost use Rattle.interval_set.specs.Prefix.{prefix_range};
 ghost use Rattle.interval_set.specs.declared.set.Range.{Range as Numbers};
-ghost use Rattle.request.specs.Arguments.{AreClaims, IsClaim, IsPart, IsPrefixText};
+ghost use Rattle.request.specs.Arguments.{AreClaims, IsClaim, IsPart, IsPrefixOf, SpellZones};
 ghost use Rattle.request.specs.Fields.{SaysAddress};
 ghost use Rattle.request.specs.Requests.{width_of};
 ghost use Rattle.request.specs.declared.types.Claim.{Claim as AnyClaim};
 
+use crate::spaces::are_zones;
 use crate::{Claim, SpellFault};
 use addr_text::{Family, V4, V6, read_number, read_range};
 use basics::{last_parted, parted};
@@ -16,11 +16,11 @@ use interval_set::{Range, Set};
 use match_expr::{Bytes, List};
 use std::alloc::Global;
 
-// The address and the length of a text `ADDRESS/LENGTH`.
-fn read_prefix<F: Family<W>, const W: u32>(text: &[u8]) -> Option<(u128, u32)>
-    ensures some { IfSome result (λ p. IsPrefixText F.Reads W text.now (prefix_range W p.0 p.1)) }
+/// The address and the length of a text `ADDRESS/LENGTH`.
+pub fn read_prefix<F: Family<W>, const W: u32>(text: &[u8]) -> Option<(u128, u32)>
+    ensures some { IfSome result (λ p. IsPrefixOf F.Reads W text.now p.0 p.1) }
     ensures fits { IfSome result (λ p. (p.0 < 2 ^ W) × (p.1 ≤ W)) }
-    ensures none { IfNone result ((r : Numbers) → IsPrefixText F.Reads W text.now r → ⊥) }
+    ensures none { IfNone result ((address len : ℕ) → IsPrefixOf F.Reads W text.now address len → ⊥) }
 {
     let (front, back) = parted(text, b'/')?;
     let address = F::read(front)?;
@@ -119,5 +119,35 @@ pub fn claims_of(alloc: Global, six: bool, arguments: &[&str]) -> Result<List<Cl
         read_claims::<V6, 128>(alloc, arguments)
     } else {
         read_claims::<V4, 32>(alloc, arguments)
+    }
+}
+
+// The claims of the arguments, where these are zones.
+fn read_zones<F: Family<W>, const W: u32>(
+    alloc: Global,
+    arguments: &[&str],
+) -> Result<List<Claim>, SpellFault>
+    requires { IsWidth W }
+    ensures ok { IfOk result (SpellZones F.Reads W (map (λ s. s.now) arguments.now)) }
+    ensures usage { IsErrOf result SpellFault.Usage → (cs : ListOf AnyClaim) → SpellZones F.Reads W (map (λ s. s.now) arguments.now) cs → ⊥ }
+{
+    let claims = read_claims::<F, W>(alloc, arguments)?;
+    are_zones::<W>(alloc, claims.as_slice())?;
+    Ok(claims)
+}
+
+/// The zones of arguments `NAME=SET`, in their order, with the grammar of claims.
+///
+/// # Errors
+///
+/// `Usage` exactly where an argument has no such form or two have one name or a common address, or `Memory`.
+pub fn zones_in(alloc: Global, six: bool, arguments: &[&str]) -> Result<List<Claim>, SpellFault>
+    ensures ok { IfOk result (SpellZones (SaysAddress six) (width_of six) (map (λ s. s.now) arguments.now)) }
+    ensures usage { IsErrOf result SpellFault.Usage → (cs : ListOf AnyClaim) → SpellZones (SaysAddress six) (width_of six) (map (λ s. s.now) arguments.now) cs → ⊥ }
+{
+    if six {
+        read_zones::<V6, 128>(alloc, arguments)
+    } else {
+        read_zones::<V4, 32>(alloc, arguments)
     }
 }

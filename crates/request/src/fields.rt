@@ -19,8 +19,8 @@ static FIELDS: [&[u8]; 10] = [
     b"icmp=",
 ];
 
-// What follows the field's name and `=`, where the argument begins with them.
-fn value_after<'a>(field: &[u8], argument: &'a [u8]) -> Option<&'a [u8]>
+/// What follows the field's name and `=`, where the argument begins with them.
+pub fn value_after<'a>(field: &[u8], argument: &'a [u8]) -> Option<&'a [u8]>
     ensures { option_map (λ s. s.now) result ≡ value_after field.now argument.now }
 {
     if argument.starts_with(field) {

@@ -1,16 +1,20 @@
-ghost use Rattle.std.specs.Prelude.{◌≡◌, ℕ, List, [], ◌∷◌, IfOk, IfSome, IfNone, IsErrOf, OnErr, map, option_map, unwrap_or};
+ghost use Rattle.std.specs.Prelude.{◌≡◌, ℕ, List, [], ◌∷◌, IfOk, IfSome, IfNone, IsErrOf, OnErr, map, not, option_map, unwrap_or};
+ghost use Rattle.std.specs.List.{filter};
 ghost use Rattle.clap.specs.Words.{Text, found_of, rows_of};
 ghost use Rattle.fw_rule.specs.declared.side.Side.{Side as AnySide};
 ghost use Rattle.primitives.specs.declared.prim.Packet.{Packet as Asked};
 ghost use Rattle.service_packet.specs.declared.service.Service.{Service as AnyService};
+ghost use Rattle.iface_space.specs.declared.hop.Hop.{Hop as AnyHop};
 ghost use Rattle.request.specs.declared.types.Claim.{Claim as AnyClaim};
+ghost use Rattle.request.specs.Arguments.{is_route};
 ghost use Rattle.request.specs.declared.types.Mode.{Mode as AnyMode};
 ghost use Rattle.request.specs.declared.types.Mode.TheVariants as mode;
 ghost use Rattle.request.specs.Requests.{HasBounds, AsksLoad, AsksMatrix, StandsAlone, Suits, parts_of, six_of, word_of};
 ghost use Rattle.request.specs.Lines.{line_parts};
 
-use crate::claims::claims_of;
+use crate::claims::{claims_of, zones_in};
 use crate::packets::packet_of;
+use crate::routes::{is_route, routes_in};
 use crate::services::service_of;
 use crate::sides::side_of;
 use crate::{Mode, SpellFault};
@@ -89,15 +93,62 @@ fn lone<'a>(arguments: &[&'a str]) -> Option<&'a str>
     }
 }
 
-// The matrix of the one argument, on the side of the line.
-fn matrix(line: &Line<'_>) -> Option<Mode>
-    ensures some { IfSome result (λ m. (service : AnyService) × (side : AnySide) × (m ≡ mode.Matrix service side) × AsksMatrix (line_parts line.now) service side) }
-    ensures none { IfNone result ((service : AnyService) (side : AnySide) → AsksMatrix (line_parts line.now) service side → ⊥) }
+// The first argument and those after it. `None` where there are none.
+fn first_and_rest<'a, 'b>(arguments: &'b [&'a str]) -> Option<(&'a str, &'b [&'a str])>
+    ensures some { IfSome result (λ p. map (λ a. a.now) arguments.now ≡ p.0.now ∷ map (λ a. a.now) p.1.now) }
+    ensures none { IfNone result (map (λ a. a.now) arguments.now ≡ []) }
 {
-    let argument = lone(&line.args)?;
-    let service = service_of(argument.as_bytes())?;
-    let side = side_of(line.side)?;
-    Some(Mode::Matrix { service, side })
+    match arguments {
+        [first, rest @ ..] => Some((first, rest)),
+        [] => None,
+    }
+}
+
+// The arguments that are no routes, and those that are.
+fn parted<'a>(
+    alloc: Global,
+    arguments: &[&'a str],
+) -> Result<(Vec<&'a str>, Vec<&'a str>), AllocError>
+    ensures { IfOk result (λ p. (map (λ s. s.now) p.0.items ≡ filter (λ text. not (is_route text)) (map (λ s. s.now) arguments.now))
+        × (map (λ s. s.now) p.1.items ≡ filter is_route (map (λ s. s.now) arguments.now))) }
+{
+    let mut others = Vec::new(alloc);
+    let mut routes = Vec::new(alloc);
+    for argument in arguments {
+        if is_route(argument.as_bytes()) {
+            routes.push(*argument)?;
+        } else {
+            others.push(*argument)?;
+        }
+    }
+    Ok((others, routes))
+}
+
+// The matrix of the arguments, on the side of the line.
+fn matrix(alloc: Global, six: bool, line: &Line<'_>) -> Result<Mode, SpellFault>
+    ensures ok { IfOk result (λ m. (service : AnyService) × (side : AnySide) × (zones : List AnyClaim) × (hops : List AnyHop)
+        × (m ≡ mode.Matrix service side zones hops) × AsksMatrix six (line_parts line.now) service side zones hops) }
+    ensures usage { IsErrOf result SpellFault.Usage → (service : AnyService) (side : AnySide) (zones : List AnyClaim) (hops : List AnyHop)
+        → AsksMatrix six (line_parts line.now) service side zones hops → ⊥ }
+{
+    let Some((first, rest)) = first_and_rest(&line.args) else {
+        return Err(SpellFault::Usage);
+    };
+    let Some(service) = service_of(first.as_bytes()) else {
+        return Err(SpellFault::Usage);
+    };
+    let Some(side) = side_of(line.side) else {
+        return Err(SpellFault::Usage);
+    };
+    let (others, routes) = parted(alloc, rest)?;
+    let zones = zones_in(alloc, six, &others)?;
+    let hops = routes_in(alloc, six, &routes)?;
+    Ok(Mode::Matrix {
+        service,
+        side,
+        zones,
+        hops,
+    })
 }
 
 // The claims of the arguments, where there are some and no side is given.
@@ -109,6 +160,28 @@ fn spoof(alloc: Global, six: bool, line: &Line<'_>) -> Result<Mode, SpellFault>
         return Err(SpellFault::Usage);
     }
     Ok(Mode::Spoof(claims_of(alloc, six, &line.args)?))
+}
+
+// The zones of the arguments, where there are some and no side is given.
+fn zones(alloc: Global, six: bool, line: &Line<'_>) -> Result<Mode, SpellFault>
+    ensures ok { IfOk result (λ m. (claims : List AnyClaim) × (m ≡ mode.Zones claims) × Suits six (line_parts line.now) m) }
+    ensures usage { IsErrOf result SpellFault.Usage → (claims : List AnyClaim) → Suits six (line_parts line.now) (mode.Zones claims) → ⊥ }
+{
+    if line.side.is_some() || line.args.is_empty() {
+        return Err(SpellFault::Usage);
+    }
+    Ok(Mode::Zones(zones_in(alloc, six, &line.args)?))
+}
+
+// The routes of the arguments, where there are some and no side is given.
+fn routes(alloc: Global, six: bool, line: &Line<'_>) -> Result<Mode, SpellFault>
+    ensures ok { IfOk result (λ m. (hops : List AnyHop) × (m ≡ mode.Routes hops) × Suits six (line_parts line.now) m) }
+    ensures usage { IsErrOf result SpellFault.Usage → (hops : List AnyHop) → Suits six (line_parts line.now) (mode.Routes hops) → ⊥ }
+{
+    if line.side.is_some() || line.args.is_empty() {
+        return Err(SpellFault::Usage);
+    }
+    Ok(Mode::Routes(routes_in(alloc, six, &line.args)?))
 }
 
 // The number of rules, where no option is given.
@@ -145,7 +218,7 @@ pub fn mode(alloc: Global, name: &str, six: bool, line: &Line<'_>) -> Result<Mod
     } else if name == "lower" {
         alone(Mode::Lower, line)
     } else if name == "matrix" {
-        matrix(line).ok_or(SpellFault::Usage)
+        matrix(alloc, six, line)
     } else if name == "spoof" {
         spoof(alloc, six, line)
     } else if name == "explain" {
@@ -154,6 +227,10 @@ pub fn mode(alloc: Global, name: &str, six: bool, line: &Line<'_>) -> Result<Mod
         load(line).ok_or(SpellFault::Usage)
     } else if name == "cover" {
         alone(Mode::Cover, line)
+    } else if name == "zones" {
+        zones(alloc, six, line)
+    } else if name == "routes" {
+        routes(alloc, six, line)
     } else {
         Err(SpellFault::Usage)
     }

@@ -2,6 +2,7 @@ ghost use Rattle.std.specs.Prelude.{◌≡◌};
 ghost use Rattle.request.specs.declared.types.SpellFault.TheVariants.{Memory};
 
 use fw_rule::Side;
+use iface_space::Hop;
 use interval_set::Range;
 use match_expr::{Bytes, List};
 use primitives::Packet;
@@ -24,6 +25,10 @@ pub enum Mode {
         service: Service,
         /// Whether an edge stands where its packet may be accepted, or where it must be.
         side: Side,
+        /// Interfaces with the sources that live behind each. No two have one name or a common address.
+        zones: List<Claim>,
+        /// Routes, as they were given. No two have the same prefix.
+        hops: List<Hop>,
     },
     /// Whether packets that open a connection may pass interfaces with forged sources: each of these with the addresses that live behind it.
     Spoof(List<Claim>),
@@ -33,6 +38,10 @@ pub enum Mode {
     Load(u32),
     /// Whether the second dump of a text must accept all that the first may accept.
     Cover,
+    /// What interfaces with these sources leave out: addresses, and names that rules test. No two have one name or a common address.
+    Zones(List<Claim>),
+    /// Where these routes send packets, and what they leave out: addresses, and names that rules test. No two have the same prefix.
+    Routes(List<Hop>),
 }
 
 /// That the addresses behind an interface are these.

@@ -4,7 +4,7 @@ use Rattle.fw_rule.specs.declared.side.Side.{Side}
 use Rattle.simple_filter.specs.Closed.{Accepts}
 use Rattle.simple_filter.specs.Hidden.{hidden}
 use Rattle.simple_filter.specs.declared.hiding.Hide.{Hide}
-use Rattle.fffuu_run.specs.Spoofing.{set_of}
+use Rattle.request.specs.Spaces.{set_of}
 use Rattle.fffuu_run.proofs.SpoofCauses.{refused_one, searched_comes, verdicts_within}
 use Rattle.fffuu_run.proofs.SpoofLemmas.{next_verdict}
 use Rattle.fffuu_run.proofs.spoofing.verdicts_of.Goals as goal

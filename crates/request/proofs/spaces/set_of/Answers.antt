@@ -1,6 +1,6 @@
 use Rattle.std.proofs.Common.{◌∙◌}
-use Rattle.fffuu_run.proofs.SpoofLemmas.{next_range, no_range}
-use Rattle.fffuu_run.proofs.spoofing.set_of.Goals as goal
+use Rattle.request.proofs.SpaceLemmas.{next_range, no_range}
+use Rattle.request.proofs.spaces.set_of.Goals as goal
 
 pub loop-range-init : goal.loop-range-init
 loop-range-init g c = c.empty-set.ensures ∙ no_range g.row.W c.requires.width
